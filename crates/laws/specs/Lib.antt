@@ -1,0 +1,2 @@
+-- Definitions that know nothing of a board.
+pub mod Bit

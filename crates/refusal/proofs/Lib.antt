@@ -1,0 +1,2 @@
+-- Laws of the refusal sheet.
+pub mod Sheet

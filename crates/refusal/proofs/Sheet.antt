@@ -1,0 +1,47 @@
+-- No two refusals share a number; what a chain of refusals that ends well says. Assumes nothing.
+use mathlib.Core.Path.{_≡_, refl, sym, ap, _∙_}
+use mathlib.Core.Bool.{Bool, true, false}
+use mathlib.Core.List.{List, [], _∷_}
+use Prim.Native.Nat.{ℕ}
+use native.Mathlib.Omega.{arith}
+use lib.ListN.{getD}
+use Rattle.laws.proofs.Once.{OneAnswer}
+use Rattle.refusal.specs.Sheet.{numberOf, Told, done, refused, unless}
+use Rattle.refusal.specs.declared.Refusal.{Refusal}
+use Rattle.refusal.specs.declared.Refusal.the-variants.{Board, Budget, Register, FrameOver, PlanCut, NoBand, Kind, Length, Field, First, Lines, Long, Room, Address, State}
+use Rattle.refusal.proofs.Refusal.number.Kinds as number-kinds
+use Rattle.refusal.proofs.Refusal.number.Reads as number
+
+-- the name at a number
+abbrev nameOf : ℕ → Refusal
+nameOf k =
+    getD (Board ∷ Board ∷ Budget ∷ Register ∷ FrameOver ∷ PlanCut ∷ NoBand ∷ Kind ∷ Length ∷ Field ∷ First ∷ Lines ∷ Long ∷ Room ∷ Address ∷ State ∷ []) k Board
+
+name-number : (w : Refusal) → nameOf (numberOf w) ≡ w
+name-number Board = refl
+name-number Budget = refl
+name-number Register = refl
+name-number FrameOver = refl
+name-number PlanCut = refl
+name-number NoBand = refl
+name-number Kind = refl
+name-number Length = refl
+name-number Field = refl
+name-number First = refl
+name-number Lines = refl
+name-number Long = refl
+name-number Room = refl
+name-number Address = refl
+name-number State = refl
+
+-- no two refusals share a number
+pub number-one : (v w : Refusal) → numberOf v ≡ numberOf w → v ≡ w
+number-one v w e = sym (name-number v) ∙ ap nameOf e ∙ name-number w
+
+number-once : OneAnswer 0 number-kinds.ps number-kinds.r number.Post
+number-once κs a x y s t p q = p ∙ sym q
+
+-- a chain that is done passed its first test
+pub passed : {X : Type 0} (t : Bool) (k : ℕ) (rest : Told X) (v : X) → unless t k rest ≡ done v → (t ≡ true) × (rest ≡ done v)
+passed true k rest v e = (refl, e)
+passed false k rest v e = absurd (let z : _≡_ {A = ℕ} 0 1 = cc in omega arith)

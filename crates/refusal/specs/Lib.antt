@@ -1,0 +1,2 @@
+-- The refusal sheet.
+pub mod Sheet

@@ -1,0 +1,46 @@
+ghost use mathlib.Core.Path.{_≡_};
+ghost use Rattle.refusal.specs.Sheet.{numberOf};
+
+// The refusal sheet: why a call was refused. The names are the paper's.
+pub enum Refusal {
+    Board,
+    Budget,
+    Register,
+    FrameOver,
+    PlanCut,
+    NoBand,
+    Kind,
+    Length,
+    Field,
+    First,
+    Lines,
+    Long,
+    Room,
+    Address,
+    State,
+}
+
+impl Refusal {
+    // The number that the desk knows a refusal by.
+    pub fn number(self) -> u8
+        ensures { λ r. ⌜ r ≡ numberOf self ⌝ }
+    {
+        match self {
+            Refusal::Board => 1,
+            Refusal::Budget => 2,
+            Refusal::Register => 3,
+            Refusal::FrameOver => 4,
+            Refusal::PlanCut => 5,
+            Refusal::NoBand => 6,
+            Refusal::Kind => 7,
+            Refusal::Length => 8,
+            Refusal::Field => 9,
+            Refusal::First => 10,
+            Refusal::Lines => 11,
+            Refusal::Long => 12,
+            Refusal::Room => 13,
+            Refusal::Address => 14,
+            Refusal::State => 15,
+        }
+    }
+}

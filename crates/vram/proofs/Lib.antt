@@ -1,0 +1,4 @@
+-- Laws of video memory.
+pub mod Length
+pub mod ReadBack
+mod Once

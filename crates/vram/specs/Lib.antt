@@ -1,0 +1,3 @@
+-- Video memory, and installing a list into it.
+pub mod Memory
+pub mod Install

@@ -1,0 +1,78 @@
+ghost use mathlib.Core.Path.{_≡_};
+ghost use Prim.Native.Nat.{_+_, _≤_, _<_};
+ghost use lib.ListN.{length};
+ghost use Rattle.vram.specs.Memory.{goodLength, byteAt, number12, number19};
+ghost use Rattle.vram.specs.Install.{poured, installTold, installAnswer, installMemory};
+use refusal::Refusal;
+
+// What installing tells: it is done, or why it is refused.
+pub enum Installed {
+    Done,
+    Refused(Refusal),
+}
+
+// "a number with exactly one bit set, from 16,384 to 524,288"
+pub fn good_length(len: usize) -> bool
+    ensures { λ r. ⌜ r ≡ goodLength len ⌝ }
+{
+    (usize::count_ones(len) == 1) & (16384 <= len) & (len <= 524288)
+}
+
+// The byte at an address, some bytes further on. The address is reduced first, so that the sum fits;
+// of a memory with no bytes, which every call refuses, it is 0.
+pub fn byte_at(mem: &[u8], address: u32, offset: u8) -> u8
+    ensures { λ r. ⌜ r ≡ byteAt (now (mem .entry)) address offset ⌝ }
+{
+    if mem.len() == 0 {
+        return 0;
+    }
+    let i = ((address % 524288 + offset as u32) % 524288) as usize % mem.len();
+    mem[i]
+}
+
+// The 12 bits of a step in the display list: the low byte and four bits of the high one.
+pub fn number_12(low: u8, high: u8) -> u16
+    ensures { λ r. ⌜ r ≡ number12 low high ⌝ }
+{
+    low as u16 + 256 * (high as u16 % 16)
+}
+
+// The 19 bits of an address: two bytes and three bits of the third.
+pub fn number_19(low: u8, middle: u8, high: u8) -> u32
+    ensures { λ r. ⌜ r ≡ number19 low middle high ⌝ }
+{
+    low as u32 + 256 * (middle as u32) + 65536 * (high as u32 % 8)
+}
+
+// Writes the bytes of the list from the address on.
+fn pour(mem: &mut [u8], list: &[u8], address: u32)
+    requires { ⌜ (0 < length (now mem)) × (address + length (now list) ≤ 1000000) ⌝ }
+    ensures { λ _. ⌜ now (mem .exit) ≡ poured (length (now (mem .entry))) (now (mem .entry)) address (now (list .entry)) ⌝ }
+{
+    let n = mem.len();
+    let mut at = address as usize;
+    let mut i = 0;
+    while i < list.len() {
+        mem[at % 524288 % n] = list[i];
+        at += 1;
+        i += 1;
+    }
+}
+
+// Writes a list of bytes at an address of video memory, or refuses and writes nothing.
+pub fn install(mem: &mut [u8], list: &[u8], address: u32) -> Installed
+    ensures answer { λ r. ⌜ installTold r ≡ installAnswer (now (mem .entry)) (now (list .entry)) address ⌝ }
+    ensures memory { λ _. ⌜ now (mem .exit) ≡ installMemory (now (mem .entry)) (now (list .entry)) address ⌝ }
+{
+    if !good_length(mem.len()) {
+        return Installed::Refused(Refusal::Board);
+    }
+    if 524287 < address {
+        return Installed::Refused(Refusal::Address);
+    }
+    if 5280 < list.len() {
+        return Installed::Refused(Refusal::Room);
+    }
+    pour(mem, list, address);
+    Installed::Done
+}
