@@ -1,0 +1,52 @@
+-- Document 01, "The blitter": one destination byte of a block in memory, and the n-th byte of a block.
+use mathlib.Core.Bool.{Bool, not, cond, _&&_}
+use mathlib.Core.List.{List}
+use Prim.Native.Nat.{ℕ, _+_, _*_, _/_, _%_}
+use lib.Bits.{bitAnd, bitXor}
+use lib.Dec.{eqb}
+use lib.ListN.{length, set}
+use Rattle.vram.specs.Memory.{place, cellAt}
+use Rattle.mode.specs.Mode.{writesIn, valueIn, codeIn, accessesIn}
+use Rattle.block.specs.declared.Block.{Block}
+use Rattle.block.specs.declared.Struck.{Struck}
+use Rattle.block.specs.Block.{columnsOf, rowsOf, modeOf, destAddress, sourceAddress}
+
+-- "If the AND mask is 0 the source is not read"; in mode 7 "the source unread"
+unfoldable pub readsSource : Block → Bool
+readsSource b = not (eqb (b .andmask) 0) && not (eqb (modeOf b) 7)
+
+-- "s = (source AND mask) XOR mask2"; a source that is not read counts as 0
+unfoldable pub sourceByte : Block → List ℕ → ℕ → ℕ → ℕ
+sourceByte b mem row col =
+    bitXor (bitAnd (cond (readsSource b) (cellAt mem (sourceAddress b row col)) 0) (b .andmask)) (b .xormask)
+
+-- "d = destination before"
+unfoldable pub destByte : Block → List ℕ → ℕ → ℕ → ℕ
+destByte b mem row col = cellAt mem (destAddress b row col)
+
+-- memory after the byte at a row and a column
+unfoldable pub written : Block → ℕ → ℕ → List ℕ → List ℕ
+written b row col mem =
+    let s = sourceByte b mem row col in
+    cond (writesIn (modeOf b) s)
+    (set mem (place (length mem) (destAddress b row col)) (valueIn (modeOf b) s (destByte b mem row col)))
+    mem
+
+-- the collision code after it, and its accesses: "A source read counts 1"
+unfoldable pub struckAt : Block → List ℕ → ℕ → ℕ → ℕ → Struck
+struckAt b mem row col code =
+    let s = sourceByte b mem row col in
+    record {
+      code = codeIn (modeOf b) (b .hitmask) s (destByte b mem row col) code;
+      accesses = accessesIn (modeOf b) (b .hitmask) s + cond (readsSource b) 1 0;
+    }
+
+-- the n-th byte of a block, by rows
+abbrev pub rowAt : Block → ℕ → ℕ
+rowAt b n = n / columnsOf b
+
+abbrev pub colAt : Block → ℕ → ℕ
+colAt b n = n % columnsOf b
+
+abbrev pub sizeOf : Block → ℕ
+sizeOf b = rowsOf b * columnsOf b

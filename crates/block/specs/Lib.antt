@@ -1,0 +1,3 @@
+-- The 21 bytes of a block, and its n-th byte.
+pub mod Block
+pub mod Byte

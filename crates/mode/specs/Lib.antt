@@ -1,0 +1,2 @@
+-- One destination byte: the mode table and the collision rules.
+pub mod Mode

@@ -1,0 +1,2 @@
+-- The settings of a scanline.
+pub mod Settings

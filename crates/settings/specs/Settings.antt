@@ -1,0 +1,121 @@
+-- Document 01, "The XDL and its 240 lines": the settings of a line, how they begin, which are sound, and how a line advances them.
+use mathlib.Core.Bool.{Bool, true, false, cond, _&&_}
+use Prim.Native.Nat.{ℕ, _+_, _%_}
+use lib.Dec.{eqb, ltb, leb}
+use Rattle.settings.specs.declared.Settings.{Settings}
+use Rattle.settings.specs.declared.Overlay.{Overlay}
+use Rattle.settings.specs.declared.Map.{Map}
+use Rattle.settings.specs.declared.Look.{Look}
+
+-- "Settings begin: overlay off, map off, scrolls 0, width 1, overlay palette 1, playfield palette 0, priority 255; ours: addresses, steps, font and counters 0, field 8 by 8"
+abbrev pub beginning : Settings
+beginning =
+    record {
+      overlay = record { mode = 0; address = 0; step = 0; hscroll = 0; vscroll = 0; font = 0; counter = 0 };
+      map = record { on = false; address = 0; step = 0; hscroll = 0; vscroll = 0; width = 8; height = 8; counter = 0 };
+      look = record { width = 1; palette = 1; playfield = 0; priority = 255 };
+    }
+
+-- "each field within its width or range"; font and priority are any byte
+abbrev pub soundOverlay : Overlay → Bool
+soundOverlay o =
+    leb (o .mode) 4
+    && ltb (o .address) 524288
+    && ltb (o .step) 4096
+    && ltb (o .hscroll) 8
+    && ltb (o .vscroll) 8
+    && ltb (o .counter) 8
+
+abbrev pub soundMap : Map → Bool
+soundMap p =
+    ltb (p .address) 524288
+    && ltb (p .step) 4096
+    && ltb (p .hscroll) 32
+    && ltb (p .vscroll) 32
+    && leb 8 (p .width)
+    && leb (p .width) 32
+    && leb 1 (p .height)
+    && leb (p .height) 32
+    && ltb (p .counter) (p .height)
+
+abbrev pub soundLook : Look → Bool
+soundLook l = leb (l .width) 2 && ltb (l .palette) 4 && ltb (l .playfield) 4
+
+abbrev pub soundSettings : Settings → Bool
+soundSettings s = soundOverlay (s .overlay) && soundMap (s .map) && soundLook (s .look)
+
+-- the same overlay or map at another address and counter
+abbrev pub overlayAt : ℕ → ℕ → Overlay → Overlay
+overlayAt address counter o =
+    record {
+      mode = o .mode;
+      address = address;
+      step = o .step;
+      hscroll = o .hscroll;
+      vscroll = o .vscroll;
+      font = o .font;
+      counter = counter;
+    }
+
+abbrev pub mapAt : ℕ → ℕ → Map → Map
+mapAt address counter p =
+    record {
+      on = p .on;
+      address = address;
+      step = p .step;
+      hscroll = p .hscroll;
+      vscroll = p .vscroll;
+      width = p .width;
+      height = p .height;
+      counter = counter;
+    }
+
+-- "SR, HR, LR add OVSTEP. Text adds 1 to the text counter; at 8 it adds OVSTEP and the counter is 0. Off adds nothing."
+unfoldable pub advancedOverlay : Overlay → Overlay
+advancedOverlay o =
+    let further = (o .address + o .step) % 524288 in
+    cond (eqb (o .mode) 0)
+    o
+    (cond (eqb (o .mode) 1)
+    (cond (ltb (o .counter) 7) (overlayAt (o .address) (o .counter + 1) o) (overlayAt further 0 o))
+    (overlayAt further (o .counter) o))
+
+-- "Map on: the field counter likewise against the height, with MAPSTEP."
+unfoldable pub advancedMap : Map → Map
+advancedMap p =
+    cond (p .on)
+    (cond (ltb (p .counter + 1) (p .height))
+    (mapAt (p .address) (p .counter + 1) p)
+    (mapAt ((p .address + p .step) % 524288) 0 p))
+    p
+
+unfoldable pub advanced : Settings → Settings
+advanced s = record { overlay = advancedOverlay (s .overlay); map = advancedMap (s .map); look = s .look }
+
+-- "overlay and map are off .. and all else is held"
+unfoldable pub off : Settings → Settings
+off s =
+    let o = s .overlay in
+    let p = s .map in
+    record {
+      overlay = record {
+        mode = 0;
+        address = o .address;
+        step = o .step;
+        hscroll = o .hscroll;
+        vscroll = o .vscroll;
+        font = o .font;
+        counter = o .counter;
+      };
+      map = record {
+        on = false;
+        address = p .address;
+        step = p .step;
+        hscroll = p .hscroll;
+        vscroll = p .vscroll;
+        width = p .width;
+        height = p .height;
+        counter = p .counter;
+      };
+      look = s .look;
+    }
