@@ -1,0 +1,34 @@
+// What the programs print, on standard output.
+use refusal::Refusal;
+
+ghost use Prim.Native.Nat.{_<_};
+
+pub fn text(s: &[u8]) {
+    io::write_all(1, s);
+}
+
+pub fn number(n: u64) {
+    io::print_decimal(1, n);
+}
+
+// One digit of sixteen, in upper case.
+fn digit(n: u8) -> u8
+    requires { ⌜ n < 16 ⌝ }
+{
+    if n < 10 { 48 + n } else { 55 + n }
+}
+
+// A byte as two digits.
+pub fn hex(b: u8) {
+    let two = [digit(b / 16), digit(b % 16)];
+    io::write_all(1, &two);
+}
+
+// A refusal as the desk prints it, in a line.
+pub fn refused(why: Refusal, item: u32) {
+    text(b"refused ");
+    number(why.number() as u64);
+    text(b" item ");
+    number(item as u64);
+    text(b"\n");
+}
