@@ -1,5 +1,5 @@
 // Installing at its edges: each line says what was lent and what the call told.
-use vram::Installed;
+use refusal::Outcome;
 
 // Installs the list and prints what was told.
 fn told(mem: &mut [u8], list: &[u8], address: u32) {
@@ -12,8 +12,8 @@ fn told(mem: &mut [u8], list: &[u8], address: u32) {
     print::text(b": ");
     let r = vram::install(mem, list, address);
     match r {
-        Installed::Done => print::text(b"installed\n"),
-        Installed::Refused(why) => print::refused(why, 0),
+        Outcome::Done => print::text(b"installed\n"),
+        Outcome::Refused(why) => print::refused(why, 0),
     }
 }
 

@@ -1,6 +1,5 @@
 // What the programs print, on standard output.
 use refusal::Refusal;
-
 ghost use Prim.Native.Nat.{_<_};
 
 pub fn text(s: &[u8]) {

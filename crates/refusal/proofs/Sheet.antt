@@ -6,9 +6,11 @@ use Prim.Native.Nat.{ℕ}
 use native.Mathlib.Omega.{arith}
 use lib.ListN.{getD}
 use Rattle.laws.proofs.Once.{OneAnswer}
-use Rattle.refusal.specs.Sheet.{numberOf, Told, done, refused, unless}
+use Rattle.refusal.specs.Sheet.{numberOf, Told, done, refused, outcomeTold, unless}
 use Rattle.refusal.specs.declared.Refusal.{Refusal}
 use Rattle.refusal.specs.declared.Refusal.the-variants.{Board, Budget, Register, FrameOver, PlanCut, NoBand, Kind, Length, Field, First, Lines, Long, Room, Address, State}
+use Rattle.refusal.specs.declared.Outcome.{Outcome}
+use Rattle.refusal.specs.declared.Outcome.the-variants.{Done, Refused}
 use Rattle.refusal.proofs.Refusal.number.Kinds as number-kinds
 use Rattle.refusal.proofs.Refusal.number.Reads as number
 
@@ -37,6 +39,13 @@ name-number State = refl
 -- no two refusals share a number
 pub number-one : (v w : Refusal) → numberOf v ≡ numberOf w → v ≡ w
 number-one v w e = sym (name-number v) ∙ ap nameOf e ∙ name-number w
+
+-- what is told means one outcome
+pub outcome-one : (x y : Outcome) → outcomeTold x ≡ outcomeTold y → x ≡ y
+outcome-one Done Done e = refl
+outcome-one Done (Refused w) e = absurd (let z : _≡_ {A = ℕ} 0 1 = cc in omega arith)
+outcome-one (Refused v) Done e = absurd (let z : _≡_ {A = ℕ} 0 1 = cc in omega arith)
+outcome-one (Refused v) (Refused w) e = ap Refused (number-one v w (cc))
 
 number-once : OneAnswer 0 number-kinds.ps number-kinds.r number.Post
 number-once κs a x y s t p q = p ∙ sym q

@@ -3,6 +3,8 @@ use Prim.Native.Nat.{ℕ}
 use mathlib.Core.Bool.{Bool, true, false}
 use Rattle.refusal.specs.declared.Refusal.{Refusal}
 use Rattle.refusal.specs.declared.Refusal.the-variants.{Board, Budget, Register, FrameOver, PlanCut, NoBand, Kind, Length, Field, First, Lines, Long, Room, Address, State}
+use Rattle.refusal.specs.declared.Outcome.{Outcome}
+use Rattle.refusal.specs.declared.Outcome.the-variants.{Done, Refused}
 
 -- the table: each name's number
 abbrev pub numberOf : Refusal → ℕ
@@ -26,6 +28,11 @@ numberOf State = 15
 pub data Told (X : Type 0) : Type 0 where
   done : X → Told X
   refused : ℕ → ℕ → Told X
+
+-- the paper's number for each case of an outcome
+abbrev pub outcomeTold : Outcome → Told (Unit {0})
+outcomeTold Done = done tt
+outcomeTold (Refused why) = refused (numberOf why) 0
 
 -- a refusal that has no item of its own has item 0; the chain of these is the order of the refusals
 abbrev pub unless : {X : Type 0} → Bool → ℕ → Told X → Told X

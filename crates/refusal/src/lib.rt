@@ -20,6 +20,12 @@ pub enum Refusal {
     State,
 }
 
+// What a call tells that has nothing else to report: it is done, or why it is refused.
+pub enum Outcome {
+    Done,
+    Refused(Refusal),
+}
+
 impl Refusal {
     // The number that the desk knows a refusal by.
     pub fn number(self) -> u8

@@ -3,15 +3,8 @@ use mathlib.Core.List.{List, [], _∷_}
 use Prim.Native.Nat.{ℕ, _+_}
 use lib.Dec.{leb}
 use lib.ListN.{length, set}
-use Rattle.refusal.specs.Sheet.{numberOf, Told, done, refused, unless, kept}
+use Rattle.refusal.specs.Sheet.{Told, done, unless, kept}
 use Rattle.vram.specs.Memory.{goodLength, place}
-use Rattle.vram.specs.declared.Installed.{Installed}
-use Rattle.vram.specs.declared.Installed.the-variants.{Done, Refused}
-
--- the paper's number for each case
-abbrev pub installTold : Installed → Told (Unit {0})
-installTold Done = done tt
-installTold (Refused why) = refused (numberOf why) 0
 
 -- a memory of L bytes, with the bytes of the list from an address on
 abbrev pub poured : ℕ → List ℕ → ℕ → List ℕ → List ℕ

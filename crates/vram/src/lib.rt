@@ -1,15 +1,11 @@
 ghost use mathlib.Core.Path.{_≡_};
 ghost use Prim.Native.Nat.{_+_, _≤_, _<_};
 ghost use lib.ListN.{length};
+ghost use Rattle.refusal.specs.Sheet.{outcomeTold};
 ghost use Rattle.vram.specs.Memory.{goodLength, byteAt, number12, number19};
-ghost use Rattle.vram.specs.Install.{poured, installTold, installAnswer, installMemory};
+ghost use Rattle.vram.specs.Install.{poured, installAnswer, installMemory};
+use refusal::Outcome;
 use refusal::Refusal;
-
-// What installing tells: it is done, or why it is refused.
-pub enum Installed {
-    Done,
-    Refused(Refusal),
-}
 
 // "a number with exactly one bit set, from 16,384 to 524,288"
 pub fn good_length(len: usize) -> bool
@@ -60,19 +56,19 @@ fn pour(mem: &mut [u8], list: &[u8], address: u32)
 }
 
 // Writes a list of bytes at an address of video memory, or refuses and writes nothing.
-pub fn install(mem: &mut [u8], list: &[u8], address: u32) -> Installed
-    ensures answer { λ r. ⌜ installTold r ≡ installAnswer (now (mem .entry)) (now (list .entry)) address ⌝ }
+pub fn install(mem: &mut [u8], list: &[u8], address: u32) -> Outcome
+    ensures answer { λ r. ⌜ outcomeTold r ≡ installAnswer (now (mem .entry)) (now (list .entry)) address ⌝ }
     ensures memory { λ _. ⌜ now (mem .exit) ≡ installMemory (now (mem .entry)) (now (list .entry)) address ⌝ }
 {
     if !good_length(mem.len()) {
-        return Installed::Refused(Refusal::Board);
+        return Outcome::Refused(Refusal::Board);
     }
     if 524287 < address {
-        return Installed::Refused(Refusal::Address);
+        return Outcome::Refused(Refusal::Address);
     }
     if 5280 < list.len() {
-        return Installed::Refused(Refusal::Room);
+        return Outcome::Refused(Refusal::Room);
     }
     pour(mem, list, address);
-    Installed::Done
+    Outcome::Done
 }

@@ -1,0 +1,4 @@
+-- The blitter's state, its tick and its run.
+pub mod State
+pub mod Tick
+pub mod Run
