@@ -38,8 +38,11 @@ unfoldable pub runFor : ℕ → Running → Running
 runFor zero r = r
 runFor (suc n) r = runFor n (onward r)
 
+abbrev pub running : Blitter → List ℕ → ℕ → ℕ → Running
+running b mem ticks accesses = record { blitter = b; mem = mem; ticks = ticks; accesses = accesses }
+
 abbrev pub begun : Blitter → List ℕ → Running
-begun b mem = record { blitter = b; mem = mem; ticks = 0; accesses = 0 }
+begun b mem = running b mem 0 0
 
 -- what is reported: ticks and accesses
 pub record Counts : Type 0 where

@@ -1,7 +1,8 @@
 -- Document 01, "The blitter": a block, its sizes, and the two addresses of its byte at a row and a column.
-use mathlib.Core.Bool.{Bool, cond}
+use mathlib.Core.Bool.{Bool, cond, _&&_}
 use mathlib.Core.List.{List}
 use Prim.Native.Nat.{ℕ, _+_, _*_, _/_, _%_}
+use lib.Dec.{eqb}
 use Rattle.laws.specs.Bit.{bit}
 use Rattle.vram.specs.Memory.{byteAt}
 use Rattle.step.specs.Step.{sideAddress}
@@ -56,6 +57,24 @@ noBlock =
       pattern = 0;
       control = 0;
     }
+
+-- whether every byte is 0
+unfoldable pub noneSide : Side → Bool
+noneSide s = eqb (s .adr0) 0 && eqb (s .adr1) 0 && eqb (s .adr2) 0 && eqb (s .y0) 0 && eqb (s .y1) 0 && eqb (s .x) 0
+
+unfoldable pub isNone : Block → Bool
+isNone b =
+    noneSide (b .source)
+    && noneSide (b .dest)
+    && eqb (b .width0) 0
+    && eqb (b .width1) 0
+    && eqb (b .height) 0
+    && eqb (b .andmask) 0
+    && eqb (b .xormask) 0
+    && eqb (b .hitmask) 0
+    && eqb (b .zoom) 0
+    && eqb (b .pattern) 0
+    && eqb (b .control) 0
 
 -- "W = blt_width+1 (9 bits), H = blt_height+1, zoom ZX and ZY 1..8"
 abbrev pub widthOf : Block → ℕ

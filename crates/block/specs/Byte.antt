@@ -9,6 +9,7 @@ use Rattle.vram.specs.Memory.{place, cellAt}
 use Rattle.mode.specs.Mode.{writesIn, valueIn, codeIn, accessesIn}
 use Rattle.block.specs.declared.Block.{Block}
 use Rattle.block.specs.declared.Struck.{Struck}
+use Rattle.block.specs.Fold.{each}
 use Rattle.block.specs.Block.{columnsOf, rowsOf, modeOf, destAddress, sourceAddress}
 
 -- "If the AND mask is 0 the source is not read"; in mode 7 "the source unread"
@@ -50,3 +51,18 @@ colAt b n = n % columnsOf b
 
 abbrev pub sizeOf : Block → ℕ
 sizeOf b = rowsOf b * columnsOf b
+
+-- the places in memory of its destination and of its source: "a memory access uses it modulo L"
+unfoldable pub destOf : List ℕ → Block → ℕ → ℕ
+destOf mem b n = place (length mem) (destAddress b (rowAt b n) (colAt b n))
+
+unfoldable pub sourceOf : List ℕ → Block → ℕ → ℕ
+sourceOf mem b n = place (length mem) (sourceAddress b (rowAt b n) (colAt b n))
+
+-- memory after the first k bytes, "columns inside rows"
+unfoldable pub blockMem : Block → ℕ → List ℕ → List ℕ
+blockMem b k mem = each (λ n. written b (rowAt b n) (colAt b n)) k mem
+
+-- and the collision code: "Later collisions replace earlier ones"
+unfoldable pub blockCode : Block → ℕ → List ℕ → ℕ → ℕ
+blockCode b k mem code = each (λ n c. struckAt b (blockMem b n mem) (rowAt b n) (colAt b n) c .code) k code

@@ -1,1 +1,4 @@
--- Laws.
+-- Laws of the mode table.
+pub mod Laws
+mod Once
+mod Rest

@@ -1,5 +1,7 @@
 ghost use mathlib.Core.Path.{_≡_};
-ghost use Rattle.mode.specs.Mode.{strokeOf};
+ghost use Prim.Native.Nat.{_*_, _<_};
+ghost use Rattle.laws.specs.Bit.{bit};
+ghost use Rattle.mode.specs.Mode.{overNibble, over, valueIn, writesIn, costIn, accessesIn, hits, codeBy, codeNibbles, codeIn, strokeOf};
 
 // What one destination byte comes to: whether it is written and with what, the collision code after it,
 // and the accesses to the destination.
@@ -8,4 +10,137 @@ pub struct Stroke {
     pub value: u8,
     pub code: u8,
     pub accesses: u8,
+}
+
+// "each nibble of s that is not 0 replaces that of d"
+fn over_nibble(s: u8, d: u8) -> u8
+    ensures { λ r. ⌜ r ≡ overNibble s d ⌝ }
+{
+    if s == 0 { d } else { s }
+}
+
+fn over_byte(s: u8, d: u8) -> u8
+    ensures { λ r. ⌜ r ≡ over s d ⌝ }
+{
+    over_nibble(s / 16, d / 16) * 16 + over_nibble(s % 16, d % 16)
+}
+
+// The columns of the mode table. Mode 7 does nothing.
+fn value(mode: u8, s: u8, d: u8) -> u8
+    ensures { λ r. ⌜ r ≡ valueIn mode s d ⌝ }
+{
+    match mode {
+        0 => s,
+        1 => s,
+        2 => ((d as u16 + s as u16) % 256) as u8,
+        3 => d | s,
+        4 => d & s,
+        5 => d ^ s,
+        6 => over_byte(s, d),
+        _ => d,
+    }
+}
+
+fn writes(mode: u8, s: u8) -> bool
+    ensures { λ r. ⌜ r ≡ writesIn mode s ⌝ }
+{
+    match mode {
+        0 => true,
+        1 => s != 0,
+        2 => s != 0,
+        3 => s != 0,
+        4 => true,
+        5 => true,
+        6 => s != 0,
+        _ => false,
+    }
+}
+
+// Mode 1 reads the destination only where a collision can be seen.
+fn cost_1(mask: u8) -> u8
+    ensures { λ r. ⌜ r ≡ costIn 1 mask ⌝ }
+{
+    if mask == 0 { 1 } else { 2 }
+}
+
+fn cost(mode: u8, mask: u8) -> u8
+    ensures { λ r. ⌜ r ≡ costIn mode mask ⌝ }
+{
+    match mode {
+        0 => 1,
+        1 => cost_1(mask),
+        2 => 2,
+        3 => 2,
+        4 => 2,
+        5 => 2,
+        6 => 2,
+        _ => 0,
+    }
+}
+
+fn accesses(mode: u8, mask: u8, s: u8) -> u8
+    ensures { λ r. ⌜ r ≡ accessesIn mode mask s ⌝ }
+{
+    if writes(mode, s) { cost(mode, mask) } else { 0 }
+}
+
+fn bit_of(mask: u8, k: u8) -> bool
+    requires { ⌜ k < 8 ⌝ }
+    ensures { λ r. ⌜ r ≡ bit mask k ⌝ }
+{
+    (mask >> k) % 2 == 1
+}
+
+// A collision, by the mask's bit for the range of colours that d is in: 32 of a byte, 2 of a nibble.
+fn hit(colours: u8, mask: u8, s: u8, d: u8) -> bool
+    requires { ⌜ (0 < colours) × (d < 8 * colours) ⌝ }
+    ensures { λ r. ⌜ r ≡ hits colours mask s d ⌝ }
+{
+    if s == 0 {
+        return false;
+    }
+    if d == 0 {
+        return false;
+    }
+    bit_of(mask, d / colours)
+}
+
+fn code_by(colours: u8, mask: u8, s: u8, d: u8, code: u8) -> u8
+    requires { ⌜ (0 < colours) × (d < 8 * colours) ⌝ }
+    ensures { λ r. ⌜ r ≡ codeBy colours mask s d code ⌝ }
+{
+    if hit(colours, mask, s, d) { d } else { code }
+}
+
+fn code_nibbles(mask: u8, s: u8, d: u8, code: u8) -> u8
+    ensures { λ r. ⌜ r ≡ codeNibbles mask s d code ⌝ }
+{
+    code_by(2, mask, s / 16, d / 16, code / 16) * 16 + code_by(2, mask, s % 16, d % 16, code % 16)
+}
+
+fn code_in(mode: u8, mask: u8, s: u8, d: u8, code: u8) -> u8
+    ensures { λ r. ⌜ r ≡ codeIn mode mask s d code ⌝ }
+{
+    match mode {
+        0 => code,
+        1 => code_by(32, mask, s, d, code),
+        2 => code_by(32, mask, s, d, code),
+        3 => code_by(32, mask, s, d, code),
+        4 => code_by(32, mask, s, d, code),
+        5 => code_by(32, mask, s, d, code),
+        6 => code_nibbles(mask, s, d, code),
+        _ => code,
+    }
+}
+
+// One destination byte: s is the source byte after both masks, d the destination byte before.
+pub fn stroke_of(mode: u8, mask: u8, s: u8, d: u8, code: u8) -> Stroke
+    ensures { λ r. ⌜ r ≡ strokeOf mode mask s d code ⌝ }
+{
+    Stroke {
+        written: writes(mode, s),
+        value: value(mode, s, d),
+        code: code_in(mode, mask, s, d, code),
+        accesses: accesses(mode, mask, s),
+    }
 }

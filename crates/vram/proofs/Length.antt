@@ -62,6 +62,10 @@ good L e =
 pub wrap : (L : ℕ) → goodLength L ≡ true → (x : ℕ) → place L x ≡ x % L
 wrap L e x = let g = good L e in mod-mod-of-dvd L x (divides L (g .one) (g .most))
 
+pub one-some : (L : ℕ) → ones L ≡ 1 → 1 ≤ L
+one-some L e =
+    ⊎-elim (λ z. absurd (let o : ones L ≡ 0 = ap ones z ∙ no-ones in omega arith)) (λ o. omega arith) (eq-zero-or-pos L)
+
 -- L less one is a mask
 pub mask-is : (L x : ℕ) → ones L ≡ 1 → bitAnd x (L - 1) ≡ x % L
 mask-is L x e = let r = one-bit L e in rw (r .1) (and-mask x (r .0))

@@ -1,0 +1,16 @@
+-- `Blitter::blank` meets its contract. Assumes nothing.
+use borrow.Author.Needs.{needs}
+use Rattle.blitter.proofs.Blitter.blank.Statement.{statement}
+use Rattle.blitter.proofs.Blitter.blank.Tie as tie
+use Rattle.blitter.proofs.Blitter.blank.Reads as reads
+use Rattle.blitter.proofs.Blitter.blank.Lts as lts
+use Rattle.block.proofs.Block.is_none.Reads as is-none-reads
+
+is-none-requires : tie.Need-is-none-requires
+is-none-requires c κs = search needs
+
+returns : tie.Need-returns
+returns c = cc
+
+pub blank-spec : {M : Type 1} → statement M
+blank-spec = tie.close (tie.spec is-none-requires returns)

@@ -1,0 +1,20 @@
+-- `Blitter::inside` meets its contract. Assumes nothing.
+use borrow.Author.Needs.{needs}
+use Rattle.blitter.proofs.Blitter.inside.Statement.{statement}
+use Rattle.blitter.proofs.Blitter.inside.Tie as tie
+use Rattle.blitter.proofs.Blitter.inside.Reads as reads
+use Rattle.blitter.proofs.Blitter.inside.Lts as lts
+use Rattle.block.proofs.Block.columns.Reads as columns-reads
+use Rattle.block.proofs.Block.rows.Reads as rows-reads
+
+rows-requires : tie.Need-rows-requires
+rows-requires c κs = search needs
+
+columns-requires : tie.Need-columns-requires
+columns-requires c κs = search needs
+
+returns : tie.Need-returns
+returns c = cc
+
+pub inside-spec : {M : Type 1} → statement M
+inside-spec = tie.close (tie.spec rows-requires columns-requires returns)

@@ -1,0 +1,22 @@
+-- `Blitter::load` meets its contract: reducing the address first changes nothing. Assumes nothing.
+use native.Mathlib.Nat.{mod-add-mod}
+use Rattle.blitter.specs.Tick.{loadTick}
+use borrow.Author.Needs.{needs}
+use Rattle.blitter.proofs.Blitter.load.Statement.{statement}
+use Rattle.blitter.proofs.Blitter.load.Tie as tie
+use Rattle.blitter.proofs.Blitter.load.Reads as reads
+use Rattle.blitter.proofs.Blitter.load.Lts as lts
+use Rattle.block.proofs.block_at.Reads as block-at-reads
+
+block-at-requires : tie.Need-block-at-requires
+block-at-requires c κs = search needs
+
+add-self : tie.Need-add-self
+add-self c = search needs
+
+returns : tie.Need-returns
+unfolding loadTick
+returns c = simp (c .before .block-at .ensures, mod-add-mod)
+
+pub load-spec : {M : Type 1} → statement M
+load-spec = tie.close (tie.spec block-at-requires add-self returns)

@@ -1,0 +1,18 @@
+-- `Blitter::start` meets its contract. Assumes nothing.
+use Rattle.blitter.specs.State.{started}
+use borrow.Author.Needs.{needs}
+use Rattle.blitter.proofs.Blitter.start.Statement.{statement}
+use Rattle.blitter.proofs.Blitter.start.Tie as tie
+use Rattle.blitter.proofs.Blitter.start.Reads as reads
+use Rattle.blitter.proofs.Blitter.start.Lts as lts
+use Rattle.block.proofs.Block.none.Reads as none-reads
+
+none-requires : tie.Need-none-requires
+none-requires c κs = search needs
+
+returns : tie.Need-returns
+unfolding started
+returns c = cc
+
+pub start-spec : {M : Type 1} → statement M
+start-spec = tie.close (tie.spec none-requires returns)

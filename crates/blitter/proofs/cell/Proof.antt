@@ -1,0 +1,19 @@
+-- `blitter::cell` meets its contract. Assumes nothing.
+use borrow.Author.Needs.{needs}
+use Rattle.blitter.proofs.cell.Statement.{statement}
+use Rattle.blitter.proofs.cell.Tie as tie
+use Rattle.blitter.proofs.cell.Reads as reads
+use Rattle.blitter.proofs.cell.Lts as lts
+use Rattle.blitter.proofs.index.Reads as index-reads
+
+index-requires : tie.Need-index-requires
+index-requires c κs = search needs
+
+shared-slice-read-result : tie.Need-shared-slice-read-result
+shared-slice-read-result c = search needs
+
+returns : tie.Need-returns
+returns c = rw (c .before .index .ensures .0)
+
+pub cell-spec : {M : Type 1} → statement M
+cell-spec = tie.close (tie.spec index-requires shared-slice-read-result returns)
