@@ -31,7 +31,7 @@ countsIn (refused k i) = record { ticks = 0; accesses = 0 }
 
 -- what is told means one report
 pub run-one : (x y : RunReport) → runTold x ≡ runTold y → x ≡ y
-run-one (Ran t a) (Ran u b) e = cc (ap (λ (x : Told Counts). countsIn x .ticks) e, ap (λ (x : Told Counts). countsIn x .accesses) e)
+run-one (Ran t a) (Ran u b) e = λ i. Ran (countsIn (e i) .ticks) (countsIn (e i) .accesses)
 run-one (Ran t a) (Refused w) e = absurd (let z : _≡_ {A = ℕ} 0 1 = cc in omega arith)
 run-one (Refused v) (Ran u b) e = absurd (let z : _≡_ {A = ℕ} 0 1 = cc in omega arith)
 run-one (Refused v) (Refused w) e = ap Refused (number-one v w (cc))

@@ -1,13 +1,13 @@
 -- The single byte, from what its parts give. Assumes nothing.
-use mathlib.Core.Path.{_≡_, refl, sym, ap, _∙_}
-use mathlib.Core.Bool.{Bool, true, false, cond}
+use mathlib.Core.Path.{_≡_, ap, _∙_}
+use mathlib.Core.Bool.{Bool, cond}
 use mathlib.Core.List.{List}
 use Prim.Native.Nat.{ℕ, _+_, _≤_}
-use native.Mathlib.Omega.{arith}
 use lib.Bits.{bitAnd, bitXor}
 use lib.ListN.{length, set}
 use mir.Val.{boolByte}
 use Rattle.vram.specs.Memory.{place, cellAt}
+use Rattle.laws.proofs.Choice.{bool-byte}
 use Rattle.mode.specs.Mode.{strokeOf}
 use Rattle.mode.specs.declared.Stroke.{Stroke}
 use Rattle.mode.proofs.Laws.{accesses-small}
@@ -15,15 +15,6 @@ use Rattle.block.specs.Block.{modeOf, destAddress, sourceAddress}
 use Rattle.block.specs.Byte.{readsSource, sourceByte, destByte, written, struckAt}
 use Rattle.block.specs.declared.Block.{Block}
 use Rattle.block.specs.declared.Struck.{Struck}
-
--- a Bool as a byte
-bool-byte : (t : Bool) → boolByte t ≡ cond t 1 0
-bool-byte true = refl
-bool-byte false = refl
-
-pub bool-small : (t : Bool) → boolByte t ≤ 1
-bool-small true = omega arith
-bool-small false = omega arith
 
 -- a stroke's accesses
 pub stroke-small : (mode mask s d code : ℕ) (k : Stroke) → k ≡ strokeOf mode mask s d code → k .accesses ≤ 2

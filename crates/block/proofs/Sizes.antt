@@ -1,11 +1,11 @@
 -- How large a block and its addresses can be, from bytes. Assumes nothing.
-use Prim.Native.Nat.{ℕ, _+_, _*_, _%_, _≤_, _<_}
+use Prim.Native.Nat.{ℕ, _+_, _%_, _≤_, _<_}
 use native.Mathlib.Nat.{mul-le-mul}
 use native.Mathlib.Omega.{arith}
 use Rattle.laws.proofs.Choice.{by-cond}
 use Rattle.laws.specs.Bit.{bit}
 use Rattle.step.proofs.Laws.{side-small}
-use Rattle.block.specs.Block.{widthOf, heightOf, zoomX, zoomY, patternOf, columnsOf, rowsOf, destAddress, sourceAddress}
+use Rattle.block.specs.Block.{widthOf, patternOf, columnsOf, rowsOf, destAddress, sourceAddress}
 use Rattle.block.specs.declared.Block.{Block}
 
 module _ (b : Block) where

@@ -32,7 +32,7 @@ over-nibble : (s d : ℕ) → s < 16 → d < 16 → overNibble s d < 16
 unfolding overNibble
 over-nibble s d h k = either 16 (eqb s 0) d s k h
 
--- the high nibble, and both, of a byte laid over another
+-- the high nibble and the low one of a byte laid over another
 pub over-high : (s d : ℕ) → s < 256 → d < 256 → overNibble (s / 16) (d / 16) < 16
 over-high s d h k = over-nibble (s / 16) (d / 16) (omega arith) (omega arith)
 

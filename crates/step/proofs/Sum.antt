@@ -1,6 +1,6 @@
 -- The sum of an address fits an i32, part by part. The machine reads A, R, Y, C and X, which are the start, the row, the step in y, the column and the step in x. Assumes nothing.
 use mathlib.Core.Path.{_≡_}
-use Prim.Native.Nat.{ℕ, _≤_, _<_, _^_}
+use Prim.Native.Nat.{ℕ, _≤_, _<_}
 use native.Mathlib.Omega.{arith}
 use lib.IntN.{ℤ, pos, _+ℤ_, _*ℤ_}
 use lib.Signed.{mag}

@@ -3,8 +3,6 @@ use Rattle.vram.proofs.Length.{one-some, mask-is, mask-under}
 use Prim.Native.Nat.{_%_}
 use Rattle.blitter.proofs.index.Statement.{statement}
 use Rattle.blitter.proofs.index.Tie as tie
-use Rattle.blitter.proofs.index.Reads as reads
-use Rattle.blitter.proofs.index.Lts as lts
 
 sub-result : tie.Need-sub-result
 sub-result c = one-some _ (c .pre)

@@ -2,9 +2,6 @@
 use borrow.Author.Needs.{needs}
 use Rattle.blitter.proofs.put.Statement.{statement}
 use Rattle.blitter.proofs.put.Tie as tie
-use Rattle.blitter.proofs.put.Reads as reads
-use Rattle.blitter.proofs.put.Lts as lts
-use Rattle.blitter.proofs.index.Reads as index-reads
 
 index-requires : tie.Need-index-requires
 index-requires c κs = search needs

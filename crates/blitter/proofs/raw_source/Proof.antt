@@ -3,11 +3,6 @@ use mathlib.Core.Path.{sym, _∙_}
 use borrow.Author.Needs.{needs}
 use Rattle.blitter.proofs.raw_source.Statement.{statement}
 use Rattle.blitter.proofs.raw_source.Tie as tie
-use Rattle.blitter.proofs.raw_source.Reads as reads
-use Rattle.blitter.proofs.raw_source.Lts as lts
-use Rattle.blitter.proofs.cell.Reads as cell-reads
-use Rattle.block.proofs.Block.reads.Reads as reads-reads
-use Rattle.block.proofs.Block.source.Reads as source-reads
 
 reads-requires : tie.Need-reads-requires
 reads-requires c κs = search needs

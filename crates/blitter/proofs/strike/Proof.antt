@@ -1,18 +1,10 @@
 -- `blitter::strike` meets its contract: one law takes what the parts give. Assumes nothing.
-use Rattle.blitter.proofs.Single.{bool-small, stroke-small, strike-is}
+use Rattle.blitter.proofs.Single.{stroke-small, strike-is}
+use Rattle.laws.proofs.Choice.{bool-small}
 use native.Mathlib.Omega.{arith}
 use borrow.Author.Needs.{needs}
 use Rattle.blitter.proofs.strike.Statement.{statement}
 use Rattle.blitter.proofs.strike.Tie as tie
-use Rattle.blitter.proofs.strike.Reads as reads
-use Rattle.blitter.proofs.strike.Lts as lts
-use Rattle.blitter.proofs.cell.Reads as cell-reads
-use Rattle.blitter.proofs.put.Reads as put-reads
-use Rattle.blitter.proofs.raw_source.Reads as raw-source-reads
-use Rattle.block.proofs.Block.destination.Reads as destination-reads
-use Rattle.block.proofs.Block.mode.Reads as mode-reads
-use Rattle.block.proofs.Block.reads.Reads as reads-reads
-use Rattle.mode.proofs.stroke_of.Reads as stroke-of-reads
 
 raw-source-requires : tie.Need-raw-source-requires
 raw-source-requires c κs = search needs

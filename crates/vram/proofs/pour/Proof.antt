@@ -10,8 +10,6 @@ use borrow.Author.Needs.{needs}
 use Rattle.vram.specs.Install.{poured}
 use Rattle.vram.proofs.pour.Statement.{statement}
 use Rattle.vram.proofs.pour.Tie as tie
-use Rattle.vram.proofs.pour.Reads as reads
-use Rattle.vram.proofs.pour.Lts as lts
 
 abbrev Inv-loop : tie.InvT-loop
 Inv-loop mem₀ list address n at₀ i₀ mem at i =

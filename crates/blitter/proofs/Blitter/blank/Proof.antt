@@ -2,9 +2,6 @@
 use borrow.Author.Needs.{needs}
 use Rattle.blitter.proofs.Blitter.blank.Statement.{statement}
 use Rattle.blitter.proofs.Blitter.blank.Tie as tie
-use Rattle.blitter.proofs.Blitter.blank.Reads as reads
-use Rattle.blitter.proofs.Blitter.blank.Lts as lts
-use Rattle.block.proofs.Block.is_none.Reads as is-none-reads
 
 is-none-requires : tie.Need-is-none-requires
 is-none-requires c κs = search needs

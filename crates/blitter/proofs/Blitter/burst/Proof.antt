@@ -9,12 +9,6 @@ use borrow.Author.Needs.{needs}
 use Rattle.blitter.proofs.Burst.{Bursting, struck-few, burst-start, turn-col, turn-row, turn-end, burst-used}
 use Rattle.blitter.proofs.Blitter.burst.Statement.{statement}
 use Rattle.blitter.proofs.Blitter.burst.Tie as tie
-use Rattle.blitter.proofs.Blitter.burst.Reads as reads
-use Rattle.blitter.proofs.Blitter.burst.Lts as lts
-use Rattle.blitter.proofs.Blitter.end.Reads as end-reads
-use Rattle.blitter.proofs.strike.Reads as strike-reads
-use Rattle.block.proofs.Block.columns.Reads as columns-reads
-use Rattle.block.proofs.Block.rows.Reads as rows-reads
 
 abbrev Inv-loop : tie.InvT-loop
 Inv-loop self mem₀ ticks accesses budget block columns rows row₀ col₀ code₀ done₀ made₀ mem row col code done made =

@@ -4,10 +4,6 @@ use mathlib.Core.Path.{sym, _∙_}
 use borrow.Author.Needs.{needs}
 use Rattle.blitter.proofs.Blitter.end.Statement.{statement}
 use Rattle.blitter.proofs.Blitter.end.Tie as tie
-use Rattle.blitter.proofs.Blitter.end.Reads as reads
-use Rattle.blitter.proofs.Blitter.end.Lts as lts
-use Rattle.block.proofs.Block.next.Reads as next-reads
-use Rattle.block.proofs.Block.none.Reads as none-reads
 
 none-requires : tie.Need-none-requires
 none-requires c κs = search needs

@@ -2,10 +2,6 @@
 use borrow.Author.Needs.{needs}
 use Rattle.blitter.proofs.Blitter.inside.Statement.{statement}
 use Rattle.blitter.proofs.Blitter.inside.Tie as tie
-use Rattle.blitter.proofs.Blitter.inside.Reads as reads
-use Rattle.blitter.proofs.Blitter.inside.Lts as lts
-use Rattle.block.proofs.Block.columns.Reads as columns-reads
-use Rattle.block.proofs.Block.rows.Reads as rows-reads
 
 rows-requires : tie.Need-rows-requires
 rows-requires c κs = search needs

@@ -3,8 +3,6 @@ use Rattle.blitter.specs.State.{interrupts}
 use mathlib.Core.Path.{_≡_, refl, sym, ap, _∙_}
 use Rattle.blitter.proofs.Blitter.interrupts.Statement.{statement}
 use Rattle.blitter.proofs.Blitter.interrupts.Tie as tie
-use Rattle.blitter.proofs.Blitter.interrupts.Reads as reads
-use Rattle.blitter.proofs.Blitter.interrupts.Lts as lts
 
 returns : tie.Need-returns
 unfolding interrupts

@@ -4,9 +4,6 @@ use Rattle.blitter.specs.Tick.{loadTick}
 use borrow.Author.Needs.{needs}
 use Rattle.blitter.proofs.Blitter.load.Statement.{statement}
 use Rattle.blitter.proofs.Blitter.load.Tie as tie
-use Rattle.blitter.proofs.Blitter.load.Reads as reads
-use Rattle.blitter.proofs.Blitter.load.Lts as lts
-use Rattle.block.proofs.block_at.Reads as block-at-reads
 
 block-at-requires : tie.Need-block-at-requires
 block-at-requires c κs = search needs

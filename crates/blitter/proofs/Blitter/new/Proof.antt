@@ -2,9 +2,6 @@
 use borrow.Author.Needs.{needs}
 use Rattle.blitter.proofs.Blitter.new.Statement.{statement}
 use Rattle.blitter.proofs.Blitter.new.Tie as tie
-use Rattle.blitter.proofs.Blitter.new.Reads as reads
-use Rattle.blitter.proofs.Blitter.new.Lts as lts
-use Rattle.block.proofs.Block.none.Reads as none-reads
 
 none-requires : tie.Need-none-requires
 none-requires c κs = search needs

@@ -3,10 +3,6 @@ use borrow.Author.Tests.{eq-eqb, ne-eqb}
 use borrow.Author.Needs.{needs}
 use Rattle.blitter.proofs.Blitter.placed.Statement.{statement}
 use Rattle.blitter.proofs.Blitter.placed.Tie as tie
-use Rattle.blitter.proofs.Blitter.placed.Reads as reads
-use Rattle.blitter.proofs.Blitter.placed.Lts as lts
-use Rattle.blitter.proofs.Blitter.blank.Reads as blank-reads
-use Rattle.blitter.proofs.Blitter.inside.Reads as inside-reads
 
 inside-requires : tie.Need-inside-requires
 inside-requires c κs = search needs

@@ -5,11 +5,6 @@ use Rattle.blitter.proofs.Answer.{no-board, no-state, no-budget, ran-to
 use borrow.Author.Needs.{needs}
 use Rattle.blitter.proofs.Blitter.run.Statement.{statement}
 use Rattle.blitter.proofs.Blitter.run.Tie as tie
-use Rattle.blitter.proofs.Blitter.run.Reads as reads
-use Rattle.blitter.proofs.Blitter.run.Lts as lts
-use Rattle.blitter.proofs.Blitter.run_for.Reads as run-for-reads
-use Rattle.blitter.proofs.Blitter.sound.Reads as sound-reads
-use Rattle.vram.proofs.good_length.Reads as good-length-reads
 
 good-length-requires : tie.Need-good-length-requires
 good-length-requires c κs = search needs

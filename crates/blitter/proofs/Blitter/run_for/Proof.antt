@@ -4,10 +4,6 @@ use native.Mathlib.Omega.{arith}
 use Rattle.blitter.proofs.Going.{Going, going-start, going-used, going-idle, going-load, going-busy, going-burst}
 use Rattle.blitter.proofs.Blitter.run_for.Statement.{statement}
 use Rattle.blitter.proofs.Blitter.run_for.Tie as tie
-use Rattle.blitter.proofs.Blitter.run_for.Reads as reads
-use Rattle.blitter.proofs.Blitter.run_for.Lts as lts
-use Rattle.blitter.proofs.Blitter.burst.Reads as burst-reads
-use Rattle.blitter.proofs.Blitter.load.Reads as load-reads
 
 abbrev Inv-loop : tie.InvT-loop
 Inv-loop self₀ mem₀ budget ticks₀ accesses₀ self mem ticks accesses = Going self₀ mem₀ budget self mem ticks accesses

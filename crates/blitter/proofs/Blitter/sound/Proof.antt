@@ -3,9 +3,6 @@ use Rattle.blitter.specs.State.{soundBlitter}
 use borrow.Author.Needs.{needs}
 use Rattle.blitter.proofs.Blitter.sound.Statement.{statement}
 use Rattle.blitter.proofs.Blitter.sound.Tie as tie
-use Rattle.blitter.proofs.Blitter.sound.Reads as reads
-use Rattle.blitter.proofs.Blitter.sound.Lts as lts
-use Rattle.blitter.proofs.Blitter.placed.Reads as placed-reads
 
 placed-requires : tie.Need-placed-requires
 placed-requires c κs = search needs

@@ -3,9 +3,6 @@ use Rattle.blitter.specs.State.{started}
 use borrow.Author.Needs.{needs}
 use Rattle.blitter.proofs.Blitter.start.Statement.{statement}
 use Rattle.blitter.proofs.Blitter.start.Tie as tie
-use Rattle.blitter.proofs.Blitter.start.Reads as reads
-use Rattle.blitter.proofs.Blitter.start.Lts as lts
-use Rattle.block.proofs.Block.none.Reads as none-reads
 
 none-requires : tie.Need-none-requires
 none-requires c κs = search needs

@@ -3,9 +3,6 @@ use Rattle.blitter.specs.State.{stopped}
 use borrow.Author.Needs.{needs}
 use Rattle.blitter.proofs.Blitter.stop.Statement.{statement}
 use Rattle.blitter.proofs.Blitter.stop.Tie as tie
-use Rattle.blitter.proofs.Blitter.stop.Reads as reads
-use Rattle.blitter.proofs.Blitter.stop.Lts as lts
-use Rattle.block.proofs.Block.none.Reads as none-reads
 
 none-requires : tie.Need-none-requires
 none-requires c κs = search needs

@@ -1,0 +1,18 @@
+-- `Board::new` meets its contract. Assumes nothing.
+use borrow.Author.Needs.{needs}
+use Rattle.board.proofs.Board.new.Statement.{statement}
+use Rattle.board.proofs.Board.new.Tie as tie
+use Rattle.blitter.proofs.Blitter.new.Reads as Blitter-new-reads
+use Rattle.board.proofs.Ports.new.Reads as Ports-new-reads
+
+new-requires : tie.Need-new-requires
+new-requires c κs = search needs
+
+new-requires-2 : tie.Need-new-requires-2
+new-requires-2 c κs = search needs
+
+returns : tie.Need-returns
+returns c = cc
+
+pub new-spec : {M : Type 1} → statement M
+new-spec = tie.close (tie.spec new-requires new-requires-2 returns)

@@ -1,0 +1,3 @@
+-- Laws of the board.
+pub mod Answer
+mod Once

@@ -1,0 +1,3 @@
+-- The desk board: its registers, and what each call answers.
+pub mod Ports
+pub mod Board

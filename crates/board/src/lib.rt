@@ -1,0 +1,300 @@
+ghost use mathlib.Core.Path.{_≡_};
+ghost use Rattle.refusal.specs.Sheet.{outcomeTold};
+ghost use Rattle.blitter.specs.Run.{runTold};
+ghost use Rattle.board.specs.Ports.{newPorts, soundPorts, lowSet, middleSet, highSet, portsWritten};
+ghost use Rattle.board.specs.Board.{newBoard, soundBoard, register, blitterWritten, writeAnswer, writeBoard, readByte, readTold, readAnswer, resetAnswer, resetBoard, runAnswer, runBoard, runMemory, tickAnswer, tickBoard, tickMem};
+use blitter::Blitter;
+use blitter::RunReport;
+use refusal::Outcome;
+use refusal::Refusal;
+
+// The registers that are only written to: VIDEO_CONTROL, XDL_ADR, BL_ADR, P0 to P3.
+pub struct Ports {
+    pub video: u8,
+    pub xdladr: u32,
+    pub bladr: u32,
+    pub p0: u8,
+    pub p1: u8,
+    pub p2: u8,
+    pub p3: u8,
+}
+
+// The desk board. Video memory is lent to each call that needs it.
+pub struct Board {
+    pub ports: Ports,
+    pub blitter: Blitter,
+}
+
+// The board after a write or a reset, and whether it was done.
+pub struct Changed {
+    pub board: Board,
+    pub report: Outcome,
+}
+
+// What reading a register gives.
+pub enum ReadReport {
+    Byte(u8),
+    Refused(Refusal),
+}
+
+// The board after a run, and what is reported.
+pub struct Ran {
+    pub board: Board,
+    pub report: RunReport,
+}
+
+// An address register with one of its bytes written: bits 0 to 7, 8 to 15, 16 to 18.
+fn low_set(address: u32, value: u8) -> u32
+    ensures { λ r. ⌜ r ≡ lowSet address value ⌝ }
+{
+    vram::number_19(
+        value,
+        (address / 256 % 256) as u8,
+        (address / 65536 % 8) as u8,
+    )
+}
+
+fn middle_set(address: u32, value: u8) -> u32
+    ensures { λ r. ⌜ r ≡ middleSet address value ⌝ }
+{
+    vram::number_19((address % 256) as u8, value, (address / 65536 % 8) as u8)
+}
+
+fn high_set(address: u32, value: u8) -> u32
+    ensures { λ r. ⌜ r ≡ highSet address value ⌝ }
+{
+    vram::number_19((address % 256) as u8, (address / 256 % 256) as u8, value)
+}
+
+// Whether the card answers at this offset.
+fn is_register(offset: u32) -> bool
+    ensures { λ r. ⌜ r ≡ register offset ⌝ }
+{
+    (0x40 <= offset) & (offset <= 0x5F)
+}
+
+impl Ports {
+    fn new() -> Ports
+        ensures { λ r. ⌜ r ≡ newPorts ⌝ }
+    {
+        Ports {
+            video: 0,
+            xdladr: 0,
+            bladr: 0,
+            p0: 0,
+            p1: 0,
+            p2: 0,
+            p3: 0,
+        }
+    }
+
+    fn sound(self) -> bool
+        ensures { λ r. ⌜ r ≡ soundPorts self ⌝ }
+    {
+        (self.video < 16) & (self.xdladr < 524288) & (self.bladr < 524288)
+    }
+
+    fn write(mut self, offset: u32, value: u8) -> Ports
+        ensures { λ r. ⌜ r ≡ portsWritten offset value self ⌝ }
+    {
+        match offset {
+            0x40 => {
+                self.video = value % 16;
+            }
+            0x41 => {
+                let address = low_set(self.xdladr, value);
+                self.xdladr = address;
+            }
+            0x42 => {
+                let address = middle_set(self.xdladr, value);
+                self.xdladr = address;
+            }
+            0x43 => {
+                let address = high_set(self.xdladr, value);
+                self.xdladr = address;
+            }
+            0x50 => {
+                let address = low_set(self.bladr, value);
+                self.bladr = address;
+            }
+            0x51 => {
+                let address = middle_set(self.bladr, value);
+                self.bladr = address;
+            }
+            0x52 => {
+                let address = high_set(self.bladr, value);
+                self.bladr = address;
+            }
+            0x55 => {
+                self.p0 = value;
+            }
+            0x56 => {
+                self.p1 = value;
+            }
+            0x57 => {
+                self.p2 = value;
+            }
+            0x58 => {
+                self.p3 = value;
+            }
+            _ => (),
+        }
+        self
+    }
+}
+
+// BLITTER_START starts by bit 0, else stops; IRQ_CONTROL sets the interrupt's enable and takes its request away.
+fn blitter_write(blitter: Blitter, bladr: u32, offset: u32, value: u8) -> Blitter
+    ensures { λ r. ⌜ r ≡ blitterWritten bladr offset value blitter ⌝ }
+{
+    if offset == 0x53 {
+        if value % 2 == 1 {
+            return blitter.start(bladr);
+        }
+        return blitter.stop();
+    }
+    if offset == 0x54 {
+        return blitter.interrupts(value % 2 == 1);
+    }
+    blitter
+}
+
+impl Board {
+    // The most ticks that one run may ask for.
+    pub const BUDGET: u32 = Blitter::BUDGET;
+
+    pub fn new() -> Board
+        ensures { λ r. ⌜ r ≡ newBoard ⌝ }
+    {
+        let ports = Ports::new();
+        let blitter = Blitter::new();
+        Board { ports, blitter }
+    }
+
+    pub fn sound(self) -> bool
+        ensures { λ r. ⌜ r ≡ soundBoard self ⌝ }
+    {
+        let ports = self.ports;
+        let blitter = self.blitter;
+        ports.sound() & blitter.sound()
+    }
+
+    // Writes a register: refused 15 and 3 in that order.
+    pub fn write(mut self, offset: u32, value: u8) -> Changed
+        ensures report { λ r. ⌜ outcomeTold (r .report) ≡ writeAnswer self offset ⌝ }
+        ensures board { λ r. ⌜ r .board ≡ writeBoard self offset value ⌝ }
+    {
+        if !self.sound() {
+            return Changed {
+                board: self,
+                report: Outcome::Refused(Refusal::State),
+            };
+        }
+        if !is_register(offset) {
+            return Changed {
+                board: self,
+                report: Outcome::Refused(Refusal::Register),
+            };
+        }
+        let before = self.ports;
+        let ports = before.write(offset, value);
+        let blitter = blitter_write(self.blitter, before.bladr, offset, value);
+        self.ports = ports;
+        self.blitter = blitter;
+        Changed {
+            board: self,
+            report: Outcome::Done,
+        }
+    }
+
+    fn read_byte(self, offset: u32) -> u8
+        ensures { λ r. ⌜ r ≡ readByte self offset ⌝ }
+    {
+        let blitter = self.blitter;
+        match offset {
+            0x40 => 0x10,
+            0x41 => 0x24,
+            0x4A => 0,
+            0x50 => blitter.code,
+            0x53 => blitter.flags,
+            0x54 => blitter.irqf as u8,
+            0x5E => 0,
+            0x5F => 0,
+            _ => 255,
+        }
+    }
+
+    // Reads a register: refused 15 and 3 in that order.
+    pub fn read(self, offset: u32) -> ReadReport
+        ensures { λ r. ⌜ readTold r ≡ readAnswer self offset ⌝ }
+    {
+        if !self.sound() {
+            return ReadReport::Refused(Refusal::State);
+        }
+        if !is_register(offset) {
+            return ReadReport::Refused(Refusal::Register);
+        }
+        ReadReport::Byte(self.read_byte(offset))
+    }
+
+    // The machine's RESET: refused 15.
+    pub fn reset(mut self) -> Changed
+        ensures report { λ r. ⌜ outcomeTold (r .report) ≡ resetAnswer self ⌝ }
+        ensures board { λ r. ⌜ r .board ≡ resetBoard self ⌝ }
+    {
+        if !self.sound() {
+            return Changed {
+                board: self,
+                report: Outcome::Refused(Refusal::State),
+            };
+        }
+        let running = self.blitter;
+        let stopped = running.stop();
+        let blitter = stopped.interrupts(false);
+        self.ports.video = 0;
+        self.blitter = blitter;
+        Changed {
+            board: self,
+            report: Outcome::Done,
+        }
+    }
+
+    // Ticks until the budget is used or the flags are 0: refused 1, 15 and 2 in that order.
+    pub fn run(mut self, mem: &mut [u8], budget: u32) -> Ran
+        ensures report { λ r. ⌜ runTold (r .report) ≡ runAnswer self (now (mem .entry)) budget ⌝ }
+        ensures board { λ r. ⌜ r .board ≡ runBoard self (now (mem .entry)) budget ⌝ }
+        ensures memory { λ _. ⌜ now (mem .exit) ≡ runMemory self (now (mem .entry)) budget ⌝ }
+    {
+        if !vram::good_length(mem.len()) {
+            return Ran {
+                board: self,
+                report: RunReport::Refused(Refusal::Board),
+            };
+        }
+        let ports = self.ports;
+        if !ports.sound() {
+            return Ran {
+                board: self,
+                report: RunReport::Refused(Refusal::State),
+            };
+        }
+        let blitter = self.blitter;
+        let ran = blitter.run(mem, budget);
+        let after = ran.blitter;
+        let report = ran.report;
+        self.blitter = after;
+        Ran {
+            board: self,
+            report,
+        }
+    }
+
+    // One tick: refused 1 and 15 in that order. It is the run with a budget of 1.
+    pub fn tick(self, mem: &mut [u8]) -> Ran
+        ensures report { λ r. ⌜ runTold (r .report) ≡ tickAnswer self (now (mem .entry)) ⌝ }
+        ensures board { λ r. ⌜ r .board ≡ tickBoard self (now (mem .entry)) ⌝ }
+        ensures memory { λ _. ⌜ now (mem .exit) ≡ tickMem self (now (mem .entry)) ⌝ }
+    {
+        self.run(mem, 1)
+    }
+}
