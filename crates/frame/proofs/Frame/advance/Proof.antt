@@ -1,0 +1,13 @@
+-- `frame::Frame::advance` meets its contract: the settings advance as they promise. Assumes nothing.
+use borrow.Author.Needs.{needs}
+use Rattle.frame.proofs.Frame.advance.Statement.{statement}
+use Rattle.frame.proofs.Frame.advance.Tie as tie
+
+advance-requires : tie.Need-advance-requires
+advance-requires c κs = search needs
+
+returns : tie.Need-returns
+returns c = simp (c .advance .ensures)
+
+pub advance-spec : {M : Type 1} → statement M
+advance-spec = tie.close (tie.spec advance-requires returns)

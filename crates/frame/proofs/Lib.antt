@@ -1,0 +1,5 @@
+-- Laws of the frame.
+pub mod Cases
+pub mod Sound
+pub mod Lines
+mod Once

@@ -1,0 +1,98 @@
+-- Document 01, "The XDL and its 240 lines": a frame, how it starts, and what its next line reports and leaves.
+use mathlib.Core.Bool.{Bool, false, cond, _&&_}
+use mathlib.Core.List.{List}
+use Prim.Native.Nat.{ℕ, zero, suc, _+_, _-_}
+use lib.Dec.{ltb, leb}
+use lib.ListN.{length}
+use Rattle.laws.specs.Bit.{bit}
+use Rattle.board.specs.Board.{soundBoard}
+use Rattle.board.specs.declared.Board.{Board}
+use Rattle.record.specs.Record.{recordOf}
+use Rattle.record.specs.declared.Reader.{Reader}
+use Rattle.refusal.specs.Sheet.{numberOf, Told, done, refused, unless, kept}
+use Rattle.settings.specs.Settings.{beginning, soundSettings, advanced, off}
+use Rattle.settings.specs.declared.Settings.{Settings}
+use Rattle.vram.specs.Memory.{goodLength}
+use Rattle.frame.specs.declared.Frame.{Frame}
+use Rattle.frame.specs.declared.LineReport.{LineReport}
+use Rattle.frame.specs.declared.FrameStart.{FrameStart}
+use Rattle.frame.specs.declared.FrameStart.the-variants.{Started, Refused as Unstarted}
+use Rattle.frame.specs.declared.LineReport.the-variants.{Line, Refused}
+
+-- "it takes XDL_ADR as the list position and bit 0 of VIDEO_CONTROL, with line and repeat 0 and the list not ended"
+abbrev pub startOf : ℕ → ℕ → Frame
+startOf address control =
+    record { settings = beginning; position = address; repeat = 0; line = 0; ended = false; on = bit control 0 }
+
+-- the paper's number for each case of a frame start
+abbrev pub startTold : FrameStart → Told Frame
+startTold (Started f) = done f
+startTold (Unstarted why) = refused (numberOf why) 0
+
+-- frame start: 15 state
+unfoldable pub startAnswer : Board → Told Frame
+startAnswer b = unless (soundBoard b) 15 (done (startOf (b .ports .xdladr) (b .ports .video)))
+
+-- "line at most 240, repeat at most 255", which every byte is; the list position has 19 bits
+abbrev pub soundFrame : Frame → Bool
+soundFrame f = soundSettings (f .settings) && ltb (f .position) 524288 && leb (f .line) 240
+
+-- what a record changes, out of a frame and back into it
+abbrev pub readerOf : Frame → Reader
+readerOf f = record { settings = f .settings; position = f .position; repeat = f .repeat; ended = f .ended }
+
+abbrev pub withReader : Reader → Frame → Frame
+withReader r f =
+    record {
+      settings = r .settings;
+      position = r .position;
+      repeat = r .repeat;
+      line = f .line;
+      ended = r .ended;
+      on = f .on;
+    }
+
+-- the same frame at another line, with other settings and repeat
+abbrev pub frameAt : ℕ → Settings → ℕ → Frame → Frame
+frameAt line s repeat f =
+    record { settings = s; position = f .position; repeat = repeat; line = line; ended = f .ended; on = f .on }
+
+-- "if repeat is above 0, lower it; else, if the list has not ended, read one record"; "When END's record and its repeats are displayed, overlay and map are off"
+unfoldable pub fetched : List ℕ → Frame → Frame
+fetched mem f =
+    cond (ltb 0 (f .repeat))
+    (frameAt (f .line) (f .settings) (f .repeat - 1) f)
+    (cond (f .ended)
+    (frameAt (f .line) (off (f .settings)) (f .repeat) f)
+    (withReader (recordOf mem (readerOf f)) f))
+
+-- "Not switched on: every line has these", the settings that a frame begins with; else "Report the settings"
+unfoldable pub shown : List ℕ → Frame → Settings
+shown mem f = cond (f .on) (fetched mem f .settings) beginning
+
+-- "then advance", to the next line; a frame that is not switched on only counts the line
+unfoldable pub nextFrame : List ℕ → Frame → Frame
+nextFrame mem f =
+    let g = fetched mem f in
+    cond (f .on) (frameAt (f .line + 1) (advanced (g .settings)) (g .repeat) g) (frameAt (f .line + 1) (f .settings) (f .repeat) f)
+
+-- the paper's number for each case
+abbrev pub lineTold : LineReport → Told Settings
+lineTold (Line s) = done s
+lineTold (Refused why) = refused (numberOf why) 0
+
+-- 1 board, 15 state, 4 frame over
+abbrev pub lineAnswer : Frame → List ℕ → Told Settings
+lineAnswer f mem =
+    unless (goodLength (length mem)) 1 (unless (soundFrame f) 15 (unless (ltb (f .line) 240) 4 (done (shown mem f))))
+
+abbrev pub lineFrame : Frame → List ℕ → Frame
+lineFrame f mem = kept (lineAnswer f mem) f (nextFrame mem f)
+
+-- the frame after k lines on unchanged memory, and what the line after these reports
+unfoldable pub linesOn : List ℕ → Frame → ℕ → Frame
+linesOn mem f zero = f
+linesOn mem f (suc k) = linesOn mem (lineFrame f mem) k
+
+abbrev pub lineAt : List ℕ → Frame → ℕ → Told Settings
+lineAt mem f k = lineAnswer (linesOn mem f k) mem

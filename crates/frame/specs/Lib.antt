@@ -1,0 +1,2 @@
+-- The frame and its 240 lines.
+pub mod Frame

@@ -1,0 +1,4 @@
+-- Laws of a record.
+pub mod Readback
+pub mod Sound
+mod Once

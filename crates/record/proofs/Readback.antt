@@ -1,0 +1,183 @@
+-- What a record reads back as: one with all seven data groups (22 bytes), and one with RPTL, OVSCRL, CHBASE and OVATT (8 bytes). Assumes nothing.
+use mathlib.Core.Path.{_≡_, refl, sym, ap, _∙_}
+use mathlib.Core.Bool.{Bool, true, false, cond, or-true}
+use mathlib.Core.List.{List}
+use Prim.Native.Nat.{ℕ, _+_, _/_, _%_}
+use native.Mathlib.Nat.{mod-add-mod, mod-mod, add-assoc, add-zero}
+use lib.Dec.{eqb}
+use Rattle.laws.specs.Bit.{bit}
+use Rattle.settings.specs.Settings.{overlayAt, mapAt}
+use Rattle.settings.specs.declared.Settings.{Settings}
+use Rattle.settings.specs.declared.Overlay.{Overlay}
+use Rattle.settings.specs.declared.Map.{Map}
+use Rattle.settings.specs.declared.Look.{Look}
+use Rattle.vram.specs.Memory.{byteAt}
+use Rattle.record.specs.Parts.{inMode, stepping, scrolled, inFont, switched, mapStepping, fielded}
+use Rattle.record.specs.Record.{modeOf, mapOf, addressAt, stepAt, fieldWidth, lookAt, controlled, repeatGroup, addressGroup, scrollGroup, fontGroup, mapGroup, fieldGroup, lookGroup, restarted, fetchedBy, recordBy, recordOf}
+use Rattle.record.specs.declared.Reader.{Reader}
+
+-- a record that begins at p, while it is read: its parts, and how many of its bytes are read
+module _ (mem : List ℕ) (p : ℕ) (ended : Bool) where
+  abbrev put : ℕ → ℕ → Overlay → Map → Look → Reader
+  put n t o q l = record { settings = record { overlay = o; map = q; look = l }; position = (p + n) % 524288; repeat = t; ended = ended }
+
+  -- a group that is announced, n bytes behind the record's begin; and one that is not
+  module _ (v n t : ℕ) (o : Overlay) (q : Map) (l : Look) where
+    repeat-read : bit v 5 ≡ true → repeatGroup mem v (put n t o q l) ≡ put (n + 1) (byteAt mem p n) o q l
+    unfolding repeatGroup
+    repeat-read h = simp (h, mod-add-mod, mod-mod, add-assoc, add-zero)
+
+    address-read : bit v 6 ≡ true → addressGroup mem v (put n t o q l) ≡ put (n + 5) t (stepping (addressAt mem p n) (stepAt mem p (n + 3)) o) q l
+    unfolding addressGroup
+    address-read h = simp (h, mod-add-mod, mod-mod, add-assoc, add-zero)
+
+    address-none : bit v 6 ≡ false → addressGroup mem v (put n t o q l) ≡ put n t o q l
+    unfolding addressGroup
+    address-none h = simp h
+
+    scroll-read : bit v 7 ≡ true → scrollGroup mem v (put n t o q l) ≡ put (n + 2) t (scrolled (byteAt mem p n % 8) (byteAt mem p (n + 1) % 8) o) q l
+    unfolding scrollGroup
+    scroll-read h = simp (h, mod-add-mod, mod-mod, add-assoc, add-zero)
+
+    font-read : bit v 0 ≡ true → fontGroup mem v (put n t o q l) ≡ put (n + 1) t (inFont (byteAt mem p n) o) q l
+    unfolding fontGroup
+    font-read h = simp (h, mod-add-mod, mod-mod, add-assoc, add-zero)
+
+    map-read : bit v 1 ≡ true → mapGroup mem v (put n t o q l) ≡ put (n + 5) t o (mapStepping (addressAt mem p n) (stepAt mem p (n + 3)) q) l
+    unfolding mapGroup
+    map-read h = simp (h, mod-add-mod, mod-mod, add-assoc, add-zero)
+
+    map-none : bit v 1 ≡ false → mapGroup mem v (put n t o q l) ≡ put n t o q l
+    unfolding mapGroup
+    map-none h = simp h
+
+    field-read : bit v 2 ≡ true → fieldGroup mem v (put n t o q l) ≡ put (n + 4) t o (fielded (byteAt mem p n % 32) (byteAt mem p (n + 1) % 32) (fieldWidth (byteAt mem p (n + 2))) (byteAt mem p (n + 3) % 32 + 1) q) l
+    unfolding fieldGroup
+    field-read h = simp (h, mod-add-mod, mod-mod, add-assoc, add-zero)
+
+    field-none : bit v 2 ≡ false → fieldGroup mem v (put n t o q l) ≡ put n t o q l
+    unfolding fieldGroup
+    field-none h = simp h
+
+    look-read : bit v 3 ≡ true → lookGroup mem v (put n t o q l) ≡ put (n + 2) t o q (lookAt mem p n)
+    unfolding lookGroup
+    look-read h = simp (h, mod-add-mod, mod-mod, add-assoc, add-zero)
+
+-- control bytes that announce all seven groups
+pub record Full (c d : ℕ) : Type 0 where
+  pub rptl : bit c 5 ≡ true
+  pub ovadr : bit c 6 ≡ true
+  pub ovscrl : bit c 7 ≡ true
+  pub chbase : bit d 0 ≡ true
+  pub mapadr : bit d 1 ≡ true
+  pub mappar : bit d 2 ≡ true
+  pub ovatt : bit d 3 ≡ true
+
+-- control bytes that change neither mode nor map and announce RPTL, OVSCRL, CHBASE and OVATT alone
+pub record Running (c d : ℕ) : Type 0 where
+  pub mode : c % 8 ≡ 0
+  pub map : c / 8 % 4 ≡ 0
+  pub rptl : bit c 5 ≡ true
+  pub ovadr : bit c 6 ≡ false
+  pub ovscrl : bit c 7 ≡ true
+  pub chbase : bit d 0 ≡ true
+  pub mapadr : bit d 1 ≡ false
+  pub mappar : bit d 2 ≡ false
+  pub ovatt : bit d 3 ≡ true
+
+module _ (mem : List ℕ) (r : Reader) (c d : ℕ) where
+  abbrev at : ℕ
+  at = r .position
+
+  -- the next record by its control bytes
+  pub by-control : byteAt mem at 0 ≡ c → byteAt mem at 1 ≡ d → recordOf mem r ≡ recordBy mem c d r
+  by-control e f = simp (e, f)
+
+  -- the reader behind the control bytes
+  abbrev begun : ℕ → ℕ → Reader
+  begun n t = put mem at (bit d 7) n t (inMode (modeOf c d (r .settings .overlay .mode)) (r .settings .overlay)) (switched (mapOf c (r .settings .map .on)) (r .settings .map)) (r .settings .look)
+
+  repeated : bit c 5 ≡ true → repeatGroup mem c (controlled c d r) ≡ begun 3 (byteAt mem at 2)
+  unfolding controlled
+  repeated h = repeat-read mem at (bit d 7) c 2 (r .repeat) _ _ _ h
+
+  -- the 22 bytes of a full record
+  pub full-record :
+      Full c d
+      → recordBy mem c d r
+      ≡ record {
+        settings = record {
+          overlay = record {
+            mode = modeOf c d (r .settings .overlay .mode);
+            address = addressAt mem at 3;
+            step = stepAt mem at 6;
+            hscroll = byteAt mem at 8 % 8;
+            vscroll = byteAt mem at 9 % 8;
+            font = byteAt mem at 10;
+            counter = 0;
+          };
+          map = record {
+            on = mapOf c (r .settings .map .on);
+            address = addressAt mem at 11;
+            step = stepAt mem at 14;
+            hscroll = byteAt mem at 16 % 32;
+            vscroll = byteAt mem at 17 % 32;
+            width = fieldWidth (byteAt mem at 18);
+            height = byteAt mem at 19 % 32 + 1;
+            counter = 0;
+          };
+          look = lookAt mem at 20;
+        };
+        position = (at + 22) % 524288;
+        repeat = byteAt mem at 2;
+        ended = bit d 7;
+      }
+  unfolding restarted
+  full-record f =
+      let e = bit d 7 in
+      ap (restarted c d)
+      (ap (lookGroup mem d) (
+      ap (fieldGroup mem d) (
+      ap (mapGroup mem d) (
+      ap (fontGroup mem d) (
+      ap (scrollGroup mem c) (
+      ap (addressGroup mem c) (repeated (f .rptl))
+      ∙ address-read mem at e c 3 _ _ _ _ (f .ovadr))
+      ∙ scroll-read mem at e c 8 _ _ _ _ (f .ovscrl))
+      ∙ font-read mem at e d 10 _ _ _ _ (f .chbase))
+      ∙ map-read mem at e d 11 _ _ _ _ (f .mapadr))
+      ∙ field-read mem at e d 16 _ _ _ _ (f .mappar))
+      ∙ look-read mem at e d 20 _ _ _ _ (f .ovatt))
+      ∙ simp (f .ovadr, f .mapadr, or-true)
+
+  -- the 8 bytes of one that runs on
+  pub running-record :
+      Running c d
+      → recordBy mem c d r
+      ≡ record {
+        settings = record {
+          overlay = inFont (byteAt mem at 5) (scrolled (byteAt mem at 3 % 8) (byteAt mem at 4 % 8) (r .settings .overlay));
+          map = r .settings .map;
+          look = lookAt mem at 6;
+        };
+        position = (at + 8) % 524288;
+        repeat = byteAt mem at 2;
+        ended = bit d 7;
+      }
+  unfolding restarted
+  running-record f =
+      let e = bit d 7 in
+      ap (restarted c d)
+      (ap (lookGroup mem d) (
+      ap (fieldGroup mem d) (
+      ap (mapGroup mem d) (
+      ap (fontGroup mem d) (
+      ap (scrollGroup mem c) (
+      ap (addressGroup mem c) (repeated (f .rptl))
+      ∙ address-none mem at e c 3 _ _ _ _ (f .ovadr))
+      ∙ scroll-read mem at e c 3 _ _ _ _ (f .ovscrl))
+      ∙ font-read mem at e d 5 _ _ _ _ (f .chbase))
+      ∙ map-none mem at e d 6 _ _ _ _ (f .mapadr))
+      ∙ field-none mem at e d 6 _ _ _ _ (f .mappar))
+      ∙ look-read mem at e d 6 _ _ _ _ (f .ovatt))
+      ∙ simp (f .mode, f .map, f .ovadr, f .mapadr, f .mappar)

@@ -1,0 +1,3 @@
+-- One record of the display list.
+pub mod Parts
+pub mod Record

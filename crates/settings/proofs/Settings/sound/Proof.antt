@@ -1,0 +1,19 @@
+-- `settings::Settings::sound` meets its contract: the three parts are sound. Assumes nothing.
+use borrow.Author.Needs.{needs}
+use Rattle.settings.proofs.Settings.sound.Statement.{statement}
+use Rattle.settings.proofs.Settings.sound.Tie as tie
+
+sound-requires : tie.Need-sound-requires
+sound-requires c κs = search needs
+
+sound-requires-2 : tie.Need-sound-requires-2
+sound-requires-2 c κs = search needs
+
+sound-requires-3 : tie.Need-sound-requires-3
+sound-requires-3 c κs = search needs
+
+returns : tie.Need-returns
+returns c = cc
+
+pub sound-spec : {M : Type 1} → statement M
+sound-spec = tie.close (tie.spec sound-requires sound-requires-2 sound-requires-3 returns)
