@@ -1,0 +1,4 @@
+-- Laws of the items of a plan.
+pub mod Ranges
+pub mod Taken
+mod Once

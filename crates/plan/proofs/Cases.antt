@@ -1,0 +1,92 @@
+-- The definitions tried on small plans: the paper's example, and the meaning of bands that run on and end. Assumes nothing.
+use mathlib.Core.Path.{_≡_, refl}
+use mathlib.Core.List.{List, [], _∷_}
+use Prim.Native.Nat.{ℕ}
+use Rattle.settings.specs.Settings.{off}
+use Rattle.settings.specs.Below.{overlayBelow, mapBelow, settingsBelow}
+use Rattle.settings.specs.declared.Settings.{Settings}
+use Rattle.item.specs.Item.{fullAt, runningAt, soundFull, soundRunning, fitted, itemAt}
+use Rattle.item.specs.declared.Item.{Item}
+use Rattle.item.specs.declared.Item.the-variants.{Full as full, Running as running}
+use Rattle.plan.specs.Plan.{parseFrom, rest, parse}
+use Rattle.plan.specs.Xdl.{fullRecord, runningRecord, xdlBytes}
+use Rattle.plan.specs.Meaning.{fullSettings, runningSettings, meaningFrom, meaning}
+
+-- the example of document 01, "At the edges"
+example :
+    xdlBytes (23 ∷ 0 ∷ 1 ∷ 0 ∷ 1 ∷ 0 ∷ 0 ∷ 0 ∷ 0 ∷ 0 ∷ 0 ∷ 0 ∷ 0 ∷ 0 ∷ 0 ∷ 0 ∷ 0 ∷ 0 ∷ 0 ∷ 0 ∷ 0 ∷ 0 ∷ 8 ∷ 1 ∷ 1 ∷ 1 ∷ 255 ∷ [])
+    ≡ 244 ∷ 143 ∷ 0 ∷ 0 ∷ 0 ∷ 0 ∷ 0 ∷ 0 ∷ 0 ∷ 0 ∷ 0 ∷ 0 ∷ 0 ∷ 0 ∷ 0 ∷ 0 ∷ 0 ∷ 0 ∷ 7 ∷ 0 ∷ 17 ∷ 255 ∷ []
+unfolding xdlBytes parse rest parseFrom itemAt fitted fullAt runningAt soundFull soundRunning fullRecord runningRecord
+example = refl
+
+-- a full band and a running-on item with the fields that matter here
+abbrev band : ℕ → ℕ → ℕ → ℕ → ℕ → ℕ → ℕ → Item
+band lines mode address step map mapstep height =
+    full
+    (record {
+      lines = lines;
+      mode = mode;
+      address = address;
+      step = step;
+      hscroll = 0;
+      vscroll = 0;
+      font = 0;
+      map = map;
+      mapaddress = 0;
+      mapstep = mapstep;
+      maphscroll = 0;
+      mapvscroll = 0;
+      fieldwidth = 8;
+      fieldheight = height;
+      width = 1;
+      palettes = 1;
+      priority = 255;
+    })
+
+abbrev onward : ℕ → ℕ → ℕ → Item
+onward lines hscroll palettes =
+    running (record { lines = lines; hscroll = hscroll; vscroll = 0; font = 0; width = 1; palettes = palettes; priority = 255 })
+
+-- mode, address, text counter; map address, field counter; hscroll and the palettes
+abbrev shown : Settings → List ℕ
+shown s =
+    s .overlay .mode
+    ∷ s .overlay .address
+    ∷ s .overlay .counter
+    ∷ s .map .address
+    ∷ s .map .counter
+    ∷ s .overlay .hscroll
+    ∷ s .look .palette
+    ∷ s .look .playfield
+    ∷ []
+
+abbrev lines : List Item → List ℕ → List (List ℕ)
+lines items [] = []
+lines items (k ∷ ks) = shown (meaning items k) ∷ lines items ks
+
+-- SR, 3 lines from 1000h by 140h, and 2 lines that run on: then off, one line further, to line 239
+pixels :
+    lines (band 3 2 4096 320 0 0 8 ∷ onward 2 5 6 ∷ []) (0 ∷ 2 ∷ 3 ∷ 4 ∷ 5 ∷ 239 ∷ [])
+    ≡ (2 ∷ 4096 ∷ 0 ∷ 0 ∷ 0 ∷ 0 ∷ 1 ∷ 0 ∷ [])
+    ∷ (2 ∷ 4736 ∷ 0 ∷ 0 ∷ 0 ∷ 0 ∷ 1 ∷ 0 ∷ [])
+    ∷ (2 ∷ 5056 ∷ 0 ∷ 0 ∷ 0 ∷ 5 ∷ 2 ∷ 1 ∷ [])
+    ∷ (2 ∷ 5376 ∷ 0 ∷ 0 ∷ 0 ∷ 5 ∷ 2 ∷ 1 ∷ [])
+    ∷ (0 ∷ 5696 ∷ 0 ∷ 0 ∷ 0 ∷ 5 ∷ 2 ∷ 1 ∷ [])
+    ∷ (0 ∷ 5696 ∷ 0 ∷ 0 ∷ 0 ∷ 5 ∷ 2 ∷ 1 ∷ [])
+    ∷ []
+unfolding off overlayBelow mapBelow settingsBelow fullSettings runningSettings meaningFrom
+pixels = refl
+
+-- text goes on with its row of characters, a map of fields 3 lines high with its fields; a second full band begins anew
+text :
+    lines (band 3 1 4096 160 1 50 3 ∷ onward 6 0 1 ∷ band 1 4 524287 1 0 50 3 ∷ []) (0 ∷ 2 ∷ 3 ∷ 7 ∷ 8 ∷ 9 ∷ 10 ∷ [])
+    ≡ (1 ∷ 4096 ∷ 0 ∷ 0 ∷ 0 ∷ 0 ∷ 1 ∷ 0 ∷ [])
+    ∷ (1 ∷ 4096 ∷ 2 ∷ 0 ∷ 2 ∷ 0 ∷ 1 ∷ 0 ∷ [])
+    ∷ (1 ∷ 4096 ∷ 3 ∷ 50 ∷ 0 ∷ 0 ∷ 1 ∷ 0 ∷ [])
+    ∷ (1 ∷ 4096 ∷ 7 ∷ 100 ∷ 1 ∷ 0 ∷ 1 ∷ 0 ∷ [])
+    ∷ (1 ∷ 4256 ∷ 0 ∷ 100 ∷ 2 ∷ 0 ∷ 1 ∷ 0 ∷ [])
+    ∷ (4 ∷ 524287 ∷ 0 ∷ 0 ∷ 0 ∷ 0 ∷ 1 ∷ 0 ∷ [])
+    ∷ (0 ∷ 0 ∷ 0 ∷ 0 ∷ 0 ∷ 0 ∷ 1 ∷ 0 ∷ [])
+    ∷ []
+unfolding off overlayBelow mapBelow settingsBelow fullSettings runningSettings meaningFrom
+text = refl

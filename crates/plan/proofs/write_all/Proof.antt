@@ -1,0 +1,98 @@
+-- `plan::write_all` meets its contract. The loop's invariant is `Writing`. Assumes nothing.
+use mathlib.Core.Path.{sym, _∙_}
+use Prim.Native.Nat.{_-_}
+use native.Mathlib.Omega.{arith}
+use lib.ListN.{length}
+use borrow.Author.Needs.{needs}
+use Rattle.item.proofs.Taken.{taken}
+use Rattle.plan.proofs.Writing.{Writing, write-start, write-never, write-fits, write-may, write-turn, write-end}
+use Rattle.plan.proofs.write_all.Statement.{statement}
+use Rattle.plan.proofs.write_all.Tie as tie
+
+abbrev Inv-loop : tie.InvT-loop
+Inv-loop plan out₀ at₀ n₀ total₀ to₀ out at n total to = Writing plan out₀ out at n total to
+
+abbrev μ-loop : tie.MeasureT-loop
+μ-loop plan out₀ at₀ n₀ total₀ to₀ out at n total to = length plan - at
+
+loop-holds : tie.Need-loop-holds Inv-loop μ-loop
+loop-holds c = write-start _ _ (c .before .before .pre .0) (c .before .before .pre .1)
+
+item-at-requires : tie.Need-item-at-requires Inv-loop μ-loop
+item-at-requires c κs = search needs
+
+enum-told : tie.Need-enum-told Inv-loop μ-loop
+enum-told c = search needs
+
+same-length : tie.Need-same-length Inv-loop μ-loop
+same-length c = c .before .before .before .before .loop .inv .long
+
+returns : tie.Need-returns Inv-loop μ-loop
+returns c = write-never _ _ _ _ _ _ _ (c .before .before .before .before .loop .inv) (c .before .before .before .loop-test .taken) _ (sym (c .before .before .item-at .ensures) ∙ c .enum-told .given .1)
+
+enum-known-r : tie.Need-enum-known-r Inv-loop μ-loop
+enum-known-r c = search needs
+
+sub-write-record : tie.Need-sub-write-record Inv-loop μ-loop
+sub-write-record c = omega (arith, c .before .before .before .before .before .loop .inv)
+
+part-write-record-start : tie.Need-part-write-record-start Inv-loop μ-loop
+part-write-record-start c = omega (arith, c .before .before .before .before .before .loop .inv)
+
+part-write-record-end : tie.Need-part-write-record-end Inv-loop μ-loop
+part-write-record-end c = search needs
+
+write-record-requires : tie.Need-write-record-requires Inv-loop μ-loop
+write-record-requires c κs = write-may _ _ _ _ _ _ _ (c .before .before .before .before .before .before .loop .inv) (c .before .before .before .before .before .loop-test .taken) _ _ (sym (c .before .before .before .before .item-at .ensures) ∙ c .before .before .r .given .1)
+
+add-to : tie.Need-add-to Inv-loop μ-loop
+add-to c = let f = write-fits _ _ _ _ _ _ _ (c .before .before .before .before .before .before .before .before .before .loop .inv) (c .before .before .before .before .before .before .before .before .loop-test .taken) _ _ (sym (c .before .before .before .before .before .before .before .item-at .ensures) ∙ c .before .before .before .before .before .r .given .1) in
+    omega (arith, c .before .before .write-record .ensures .0, f, c .before .before .before .before .before .before .before .before .before .loop .inv)
+
+lines-of-requires : tie.Need-lines-of-requires Inv-loop μ-loop
+lines-of-requires c κs = search needs
+
+add-total : tie.Need-add-total Inv-loop μ-loop
+add-total c = let i = taken _ _ _ _ _ _ (sym (c .before .before .before .before .before .before .before .before .item-at .ensures) ∙ c .before .before .before .before .before .before .r .given .1) in
+    omega (arith, c .lines-of .ensures, i .fits .lines)
+
+add-n : tie.Need-add-n Inv-loop μ-loop
+add-n c = omega (arith, c .before .before .before .before .before .before .before .before .before .before .loop .inv)
+
+loop-less : tie.Need-loop-less Inv-loop μ-loop
+loop-less c = let i = taken _ _ _ _ _ _ (sym (c .before .before .before .before .before .before .before .before .item-at .ensures) ∙ c .before .before .before .before .before .before .r .given .1) in
+    omega (arith, c .before .before .before .before .before .before .before .before .before .loop-test .taken)
+
+loop-again : tie.Need-loop-again Inv-loop μ-loop
+loop-again c = write-turn _ _ _ _ _ _ _ (c .before .before .before .before .before .before .before .before .before .before .loop .inv) (c .before .before .before .before .before .before .before .before .before .loop-test .taken) _ _ (sym (c .before .before .before .before .before .before .before .before .item-at .ensures) ∙ c .before .before .before .before .before .before .r .given .1) _ _ _ (c .before .before .before .write-record .ensures .0) (c .lines-of .ensures) (c .before .before .before .write-record .ensures .1)
+
+same-length-2 : tie.Need-same-length-2 Inv-loop μ-loop
+same-length-2 c = c .before .loop .inv .long
+
+returns-2 : tie.Need-returns-2 Inv-loop μ-loop
+returns-2 c = write-end _ _ _ _ _ _ _ (c .before .before .before .before .pre .0) (c .before .loop .inv) (c .loop-test .left)
+
+pub write-all-spec : {M : Type 1} → statement M
+write-all-spec =
+    tie.close
+    (tie.spec
+    Inv-loop
+    μ-loop
+    loop-holds
+    item-at-requires
+    enum-told
+    same-length
+    returns
+    enum-known-r
+    sub-write-record
+    part-write-record-start
+    part-write-record-end
+    write-record-requires
+    add-to
+    lines-of-requires
+    add-total
+    add-n
+    loop-less
+    loop-again
+    same-length-2
+    returns-2)

@@ -1,0 +1,33 @@
+-- Document 01, "Plans" and "Refusal numbers": what compiling tells, and what the output buffer holds then.
+use mathlib.Core.List.{List, _++_}
+use Prim.Native.Nat.{ℕ}
+use lib.Dec.{leb}
+use lib.ListN.{length, drop}
+use Rattle.refusal.specs.Sheet.{numberOf, Told, done, refused, unless, kept}
+use Rattle.plan.specs.Plan.{Parsed, good, bad, parse}
+use Rattle.plan.specs.Xdl.{bytesOf, xdlBytes}
+use Rattle.plan.specs.declared.Compiled.{Compiled}
+use Rattle.plan.specs.declared.Compiled.the-variants.{Done, Refused}
+
+-- the paper's number and values for each case
+abbrev pub compileTold : Compiled → Told ℕ
+compileTold (Done bytes) = done bytes
+compileTold (Refused why item) = refused (numberOf why) item
+
+-- what the first pass tells: the number of bytes, or the refusal of an item
+abbrev pub checkedOf : Parsed → Compiled
+checkedOf (good l) = Done (length (bytesOf l))
+checkedOf (bad why n) = Refused why n
+
+-- "after the last item 12, 13": "the XDL would exceed 8,192 bytes", "XDL longer than the output buffer"
+abbrev pub fitting : Told ℕ → ℕ → Told ℕ
+fitting (done bytes) room = unless (leb bytes 8192) 12 (unless (leb bytes room) 13 (done bytes))
+fitting (refused number item) room = refused number item
+
+-- a plan, compiled into an output buffer of so many bytes
+unfoldable pub compileAnswer : List ℕ → ℕ → Told ℕ
+compileAnswer plan room = fitting (compileTold (checkedOf (parse plan))) room
+
+-- "bytes past the XDL stay"; a refusal "writes nothing"
+unfoldable pub compileOutput : List ℕ → List ℕ → List ℕ
+compileOutput plan out = kept (compileAnswer plan (length out)) out (xdlBytes plan ++ drop (length (xdlBytes plan)) out)

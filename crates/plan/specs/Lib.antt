@@ -1,0 +1,5 @@
+-- Plans: the items, what they mean, the bytes of their list, and compiling.
+pub mod Plan
+pub mod Xdl
+pub mod Compile
+pub mod Meaning

@@ -1,0 +1,96 @@
+-- Document 01, "Plans", "Meaning": the settings of each of the 240 lines, worked out from the items alone.
+use mathlib.Core.Bool.{cond}
+use mathlib.Core.List.{List, [], _∷_}
+use Prim.Native.Nat.{ℕ, _+_, _-_, _/_, _%_}
+use lib.Dec.{eqb, ltb}
+use Rattle.settings.specs.Settings.{beginning, off}
+use Rattle.settings.specs.Below.{settingsBelow}
+use Rattle.settings.specs.declared.Settings.{Settings}
+use Rattle.settings.specs.declared.Look.{Look}
+use Rattle.item.specs.Item.{linesOf}
+use Rattle.item.specs.declared.Full.{Full}
+use Rattle.item.specs.declared.Running.{Running}
+use Rattle.item.specs.declared.Item.{Item}
+use Rattle.item.specs.declared.Item.the-variants.{Full as full, Running as running}
+use Rattle.plan.specs.Plan.{parse, itemsOf}
+
+-- "palettes 0..15 (overlay + 4·playfield)"
+abbrev pub lookOf : ℕ → ℕ → ℕ → Look
+lookOf width palettes priority = record { width = width; palette = palettes % 4; playfield = palettes / 4; priority = priority }
+
+-- the first line of a full band
+unfoldable pub fullSettings : Full → Settings
+fullSettings b =
+    record {
+      overlay = record {
+        mode = b .mode;
+        address = b .address;
+        step = b .step;
+        hscroll = b .hscroll;
+        vscroll = b .vscroll;
+        font = b .font;
+        counter = 0;
+      };
+      map = record {
+        on = eqb (b .map) 1;
+        address = b .mapaddress;
+        step = b .mapstep;
+        hscroll = b .maphscroll;
+        vscroll = b .mapvscroll;
+        width = b .fieldwidth;
+        height = b .fieldheight;
+        counter = 0;
+      };
+      look = lookOf (b .width) (b .palettes) (b .priority);
+    }
+
+-- a running-on item changes "hscroll, vscroll, font, width, palettes, priority. All else runs on from above."
+unfoldable pub runningSettings : Running → Settings → Settings
+runningSettings b s =
+    record {
+      overlay = record {
+        mode = s .overlay .mode;
+        address = s .overlay .address;
+        step = s .overlay .step;
+        hscroll = b .hscroll;
+        vscroll = b .vscroll;
+        font = b .font;
+        counter = s .overlay .counter;
+      };
+      map = s .map;
+      look = lookOf (b .width) (b .palettes) (b .priority);
+    }
+
+-- the latest full band, with what ran on since: its settings as of its first line, and how many lines below that line we are
+pub record Latest : Type 0 where
+  pub first : Settings
+  pub below : ℕ
+
+-- at an item's first line
+abbrev pub enter : Item → Latest → Latest
+enter (full b) l = record { first = fullSettings b; below = 0 }
+enter (running b) l = record { first = runningSettings b (l .first); below = l .below }
+
+-- some lines further down
+abbrev pub lower : ℕ → Latest → Latest
+lower n l = record { first = l .first; below = l .below + n }
+
+-- "on the line k lines below the first line of the latest full band"
+abbrev pub settingsAt : Latest → ℕ → Settings
+settingsAt l k = settingsBelow (l .first) (l .below + k)
+
+-- "Below the plan: overlay and map off; the rest as if the last item had one line more, held."
+unfoldable pub meaningFrom : List Item → Latest → ℕ → Settings
+meaningFrom [] l k = off (settingsAt l 0)
+meaningFrom (it ∷ more) l k =
+    cond (ltb k (linesOf it))
+    (settingsAt (enter it l) k)
+    (meaningFrom more (lower (linesOf it) (enter it l)) (k - linesOf it))
+
+-- the settings of line k
+abbrev pub meaning : List Item → ℕ → Settings
+meaning items k = meaningFrom items (record { first = beginning; below = 0 }) k
+
+-- of a plan's bytes
+abbrev pub planMeans : List ℕ → ℕ → Settings
+planMeans plan k = meaning (itemsOf (parse plan)) k
