@@ -304,7 +304,7 @@ impl Blitter {
     }
 
     // A run: refused 1, 15 and 2 in that order.
-    pub fn run(self, mem: &mut [u8], budget: u32) -> BlitterRan
+    pub fn run(mut self, mem: &mut [u8], budget: u32) -> BlitterRan
         ensures report { λ r. ⌜ runTold (r .report) ≡ runAnswer self (now (mem .entry)) budget ⌝ }
         ensures blitter { λ r. ⌜ r .blitter ≡ runBlitter self (now (mem .entry)) budget ⌝ }
         ensures memory { λ _. ⌜ now (mem .exit) ≡ runMemory self (now (mem .entry)) budget ⌝ }

@@ -290,7 +290,7 @@ impl Board {
     }
 
     // One tick: refused 1 and 15 in that order. It is the run with a budget of 1.
-    pub fn tick(self, mem: &mut [u8]) -> Ran
+    pub fn tick(mut self, mem: &mut [u8]) -> Ran
         ensures report { λ r. ⌜ runTold (r .report) ≡ tickAnswer self (now (mem .entry)) ⌝ }
         ensures board { λ r. ⌜ r .board ≡ tickBoard self (now (mem .entry)) ⌝ }
         ensures memory { λ _. ⌜ now (mem .exit) ≡ tickMem self (now (mem .entry)) ⌝ }

@@ -1,15 +1,14 @@
 -- The lines of a frame on unchanged memory, one after the other. Assumes nothing.
 use mathlib.Core.Path.{_≡_, refl, sym, ap, _∙_}
-use mathlib.Core.Bool.{Bool, true, false, cond}
+use mathlib.Core.Bool.{true}
 use mathlib.Core.List.{List}
-use Prim.Native.Nat.{ℕ, zero, suc, _+_, _≤_, _<_}
+use Prim.Native.Nat.{ℕ, zero, suc, _+_, _<_}
 use native.Mathlib.Omega.{arith}
 use lib.ListN.{length, getD}
 use Rattle.laws.proofs.Choice.{by-cond}
-use Rattle.refusal.specs.Sheet.{Told, done}
-use Rattle.settings.specs.declared.Settings.{Settings}
+use Rattle.refusal.specs.Sheet.{done}
 use Rattle.vram.specs.Memory.{goodLength}
-use Rattle.frame.specs.Frame.{soundFrame, shown, nextFrame, lineFrame, linesOn, lineAt}
+use Rattle.frame.specs.Frame.{soundFrame, shown, nextFrame, linesOn, lineAt}
 use Rattle.frame.proofs.Cases.{line-given}
 use Rattle.frame.proofs.Sound.{sound-next}
 use Rattle.frame.specs.declared.Frame.{Frame}

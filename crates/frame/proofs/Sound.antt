@@ -2,7 +2,7 @@
 use mathlib.Core.Path.{_≡_, refl, ap, _∙_}
 use mathlib.Core.Bool.{Bool, true, false, _&&_}
 use mathlib.Core.List.{List}
-use Prim.Native.Nat.{ℕ, _+_, _≤_, _<_}
+use Prim.Native.Nat.{ℕ, _≤_, _<_}
 use native.Mathlib.Omega.{arith}
 use lib.Dec.{ltb, leb}
 use lib.ListN.{length, getD}
@@ -10,10 +10,10 @@ use borrow.Author.Tests.{ltb-true, ltb-false, leb-true, lt-ltb, le-leb}
 use Rattle.laws.proofs.Choice.{by-cond, both}
 use Rattle.record.proofs.Sound.{record-fits, record-position}
 use Rattle.settings.specs.declared.Settings.{Settings}
-use Rattle.settings.proofs.Sound.{SettingsFit, settings-fit, settings-sound, sound-advanced, sound-off, sound-beginning}
-use Rattle.settings.specs.Settings.{soundSettings, advanced, off}
+use Rattle.settings.proofs.Sound.{settings-fit, settings-sound, sound-advanced, sound-off, sound-beginning}
+use Rattle.settings.specs.Settings.{soundSettings}
 use Rattle.vram.specs.Memory.{goodLength}
-use Rattle.frame.specs.Frame.{startOf, soundFrame, readerOf, fetched, shown, nextFrame, lineAnswer, lineFrame}
+use Rattle.frame.specs.Frame.{startOf, soundFrame, readerOf, fetched, shown, nextFrame, lineFrame}
 use Rattle.frame.proofs.Cases.{line-board, line-over, line-given}
 use Rattle.frame.specs.declared.Frame.{Frame}
 

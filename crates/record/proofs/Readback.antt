@@ -1,19 +1,16 @@
 -- What a record reads back as: one with all seven data groups (22 bytes), and one with RPTL, OVSCRL, CHBASE and OVATT (8 bytes). Assumes nothing.
-use mathlib.Core.Path.{_≡_, refl, sym, ap, _∙_}
-use mathlib.Core.Bool.{Bool, true, false, cond, or-true}
+use mathlib.Core.Path.{_≡_, _∙_}
+use mathlib.Core.Bool.{Bool, true, false, or-true}
 use mathlib.Core.List.{List}
 use Prim.Native.Nat.{ℕ, _+_, _/_, _%_}
 use native.Mathlib.Nat.{mod-add-mod, mod-mod, add-assoc, add-zero}
-use lib.Dec.{eqb}
 use Rattle.laws.specs.Bit.{bit}
-use Rattle.settings.specs.Settings.{overlayAt, mapAt}
-use Rattle.settings.specs.declared.Settings.{Settings}
 use Rattle.settings.specs.declared.Overlay.{Overlay}
 use Rattle.settings.specs.declared.Map.{Map}
 use Rattle.settings.specs.declared.Look.{Look}
 use Rattle.vram.specs.Memory.{byteAt}
 use Rattle.record.specs.Parts.{inMode, stepping, scrolled, inFont, switched, mapStepping, fielded}
-use Rattle.record.specs.Record.{modeOf, mapOf, addressAt, stepAt, fieldWidth, lookAt, controlled, repeatGroup, addressGroup, scrollGroup, fontGroup, mapGroup, fieldGroup, lookGroup, restarted, fetchedBy, recordBy, recordOf}
+use Rattle.record.specs.Record.{modeOf, mapOf, addressAt, stepAt, fieldWidth, lookAt, controlled, repeatGroup, addressGroup, scrollGroup, fontGroup, mapGroup, fieldGroup, lookGroup, restarted, recordBy, recordOf}
 use Rattle.record.specs.declared.Reader.{Reader}
 
 -- a record that begins at p, while it is read: its parts, and how many of its bytes are read
@@ -93,13 +90,21 @@ module _ (mem : List ℕ) (r : Reader) (c d : ℕ) where
   pub by-control : byteAt mem at 0 ≡ c → byteAt mem at 1 ≡ d → recordOf mem r ≡ recordBy mem c d r
   by-control e f = simp (e, f)
 
-  -- the reader behind the control bytes
-  abbrev begun : ℕ → ℕ → Reader
-  begun n t = put mem at (bit d 7) n t (inMode (modeOf c d (r .settings .overlay .mode)) (r .settings .overlay)) (switched (mapOf c (r .settings .map .on)) (r .settings .map)) (r .settings .look)
+  -- the reader behind RPTL
+  abbrev begun : ℕ → Reader
+  begun t = put mem at (bit d 7) 3 t (inMode (modeOf c d (r .settings .overlay .mode)) (r .settings .overlay)) (switched (mapOf c (r .settings .map .on)) (r .settings .map)) (r .settings .look)
 
-  repeated : bit c 5 ≡ true → repeatGroup mem c (controlled c d r) ≡ begun 3 (byteAt mem at 2)
+  repeated : bit c 5 ≡ true → repeatGroup mem c (controlled c d r) ≡ begun (byteAt mem at 2)
   unfolding controlled
   repeated h = repeat-read mem at (bit d 7) c 2 (r .repeat) _ _ _ h
+
+  -- the groups one after the other, by what each makes of the one before
+  in-order :
+      {r1 r2 r3 r4 r5 r6 r7 : Reader} → repeatGroup mem c (controlled c d r) ≡ r1 → addressGroup mem c r1 ≡ r2
+      → scrollGroup mem c r2 ≡ r3 → fontGroup mem d r3 ≡ r4 → mapGroup mem d r4 ≡ r5 → fieldGroup mem d r5 ≡ r6
+      → lookGroup mem d r6 ≡ r7
+      → recordBy mem c d r ≡ restarted c d r7
+  in-order e1 e2 e3 e4 e5 e6 e7 = cc
 
   -- the 22 bytes of a full record
   pub full-record :
@@ -135,19 +140,14 @@ module _ (mem : List ℕ) (r : Reader) (c d : ℕ) where
   unfolding restarted
   full-record f =
       let e = bit d 7 in
-      ap (restarted c d)
-      (ap (lookGroup mem d) (
-      ap (fieldGroup mem d) (
-      ap (mapGroup mem d) (
-      ap (fontGroup mem d) (
-      ap (scrollGroup mem c) (
-      ap (addressGroup mem c) (repeated (f .rptl))
-      ∙ address-read mem at e c 3 _ _ _ _ (f .ovadr))
-      ∙ scroll-read mem at e c 8 _ _ _ _ (f .ovscrl))
-      ∙ font-read mem at e d 10 _ _ _ _ (f .chbase))
-      ∙ map-read mem at e d 11 _ _ _ _ (f .mapadr))
-      ∙ field-read mem at e d 16 _ _ _ _ (f .mappar))
-      ∙ look-read mem at e d 20 _ _ _ _ (f .ovatt))
+      in-order
+      (repeated (f .rptl))
+      (address-read mem at e c 3 _ _ _ _ (f .ovadr))
+      (scroll-read mem at e c 8 _ _ _ _ (f .ovscrl))
+      (font-read mem at e d 10 _ _ _ _ (f .chbase))
+      (map-read mem at e d 11 _ _ _ _ (f .mapadr))
+      (field-read mem at e d 16 _ _ _ _ (f .mappar))
+      (look-read mem at e d 20 _ _ _ _ (f .ovatt))
       ∙ simp (f .ovadr, f .mapadr, or-true)
 
   -- the 8 bytes of one that runs on
@@ -167,17 +167,12 @@ module _ (mem : List ℕ) (r : Reader) (c d : ℕ) where
   unfolding restarted
   running-record f =
       let e = bit d 7 in
-      ap (restarted c d)
-      (ap (lookGroup mem d) (
-      ap (fieldGroup mem d) (
-      ap (mapGroup mem d) (
-      ap (fontGroup mem d) (
-      ap (scrollGroup mem c) (
-      ap (addressGroup mem c) (repeated (f .rptl))
-      ∙ address-none mem at e c 3 _ _ _ _ (f .ovadr))
-      ∙ scroll-read mem at e c 3 _ _ _ _ (f .ovscrl))
-      ∙ font-read mem at e d 5 _ _ _ _ (f .chbase))
-      ∙ map-none mem at e d 6 _ _ _ _ (f .mapadr))
-      ∙ field-none mem at e d 6 _ _ _ _ (f .mappar))
-      ∙ look-read mem at e d 6 _ _ _ _ (f .ovatt))
+      in-order
+      (repeated (f .rptl))
+      (address-none mem at e c 3 _ _ _ _ (f .ovadr))
+      (scroll-read mem at e c 3 _ _ _ _ (f .ovscrl))
+      (font-read mem at e d 5 _ _ _ _ (f .chbase))
+      (map-none mem at e d 6 _ _ _ _ (f .mapadr))
+      (field-none mem at e d 6 _ _ _ _ (f .mappar))
+      (look-read mem at e d 6 _ _ _ _ (f .ovatt))
       ∙ simp (f .mode, f .map, f .ovadr, f .mapadr, f .mappar)

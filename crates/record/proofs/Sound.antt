@@ -1,6 +1,6 @@
 -- A record of bytes keeps settings sound and the position in 19 bits. Between a smaller MAPPAR and the restart behind it the field counter may stand
 -- above the height, so while a record is read the map is sound but for its counter. Assumes nothing.
-use mathlib.Core.Path.{_≡_, refl, sym, _∙_}
+use mathlib.Core.Path.{_≡_}
 use mathlib.Core.Bool.{Bool, true, false, cond, _||_}
 use mathlib.Core.List.{List}
 use Prim.Native.Nat.{ℕ, _+_, _/_, _%_, _≤_, _<_}
@@ -12,8 +12,7 @@ use borrow.Author.Tests.{eqb-false, ltb-false}
 use Rattle.laws.proofs.Choice.{by-cond}
 use Rattle.laws.specs.Bit.{bit}
 use Rattle.settings.proofs.Sound.{OverlayFits, MapFits, LookFits, SettingsFit, overlay-at-fits, map-at-fits}
-use Rattle.settings.specs.Settings.{overlayAt, mapAt}
-use Rattle.settings.specs.declared.Map.{Map}
+use Rattle.settings.specs.Settings.{mapAt}
 use Rattle.vram.specs.Memory.{byteAt, place}
 use Rattle.record.specs.Record.{pixelMode, modeOf, addressAt, stepAt, fieldWidth, displayWidth, fieldRestarts, textRestarts, controlled, repeatGroup, addressGroup, scrollGroup, fontGroup, mapGroup, fieldGroup, lookGroup, restarted, fetchedBy, recordOf}
 use Rattle.record.specs.declared.Reader.{Reader}

@@ -1,7 +1,6 @@
 -- The same overlay, map or reader with other parts.
 use mathlib.Core.Bool.{Bool}
 use Prim.Native.Nat.{ℕ, _+_, _%_}
-use Rattle.settings.specs.declared.Settings.{Settings}
 use Rattle.settings.specs.declared.Overlay.{Overlay}
 use Rattle.settings.specs.declared.Map.{Map}
 use Rattle.settings.specs.declared.Look.{Look}

@@ -1,12 +1,12 @@
 -- Sound settings: the row of tests taken apart into facts and put together again; beginning, advancing and going dark keep it. Assumes nothing.
 use mathlib.Core.Path.{_≡_, refl}
-use mathlib.Core.Bool.{Bool, true, false, _&&_}
+use mathlib.Core.Bool.{Bool, true, _&&_}
 use mathlib.Core.List.{List, [], _∷_}
 use Prim.Native.Nat.{ℕ, _+_, _%_, _≤_, _<_}
 use native.Mathlib.Nat.{mod-lt}
 use native.Mathlib.Omega.{arith}
 use lib.Dec.{eqb, ltb, leb}
-use borrow.Author.Tests.{ltb-true, ltb-false, leb-true, lt-ltb, le-leb}
+use borrow.Author.Tests.{ltb-true, leb-true, lt-ltb, le-leb}
 use Rattle.laws.proofs.Choice.{by-cond, both}
 use Rattle.settings.specs.Settings.{beginning, soundOverlay, soundMap, soundLook, soundSettings, overlayAt, mapAt, advancedOverlay, advancedMap, advanced, off}
 use Rattle.settings.specs.declared.Settings.{Settings}

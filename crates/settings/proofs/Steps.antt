@@ -3,7 +3,7 @@
 use mathlib.Core.Path.{_≡_, refl, sym, ap, _∙_}
 use mathlib.Core.Bool.{Bool, true, false, cond}
 use Prim.Native.Nat.{ℕ, _+_, _*_, _/_, _%_, _≤_, _<_}
-use native.Mathlib.Nat.{div-add-mod', mod-lt, mod-add-mod, mod-eq-of-lt, zero-mod, zero-div, zero-mul, add-zero, add-mul, one-mul}
+use native.Mathlib.Nat.{div-add-mod', mod-lt, mod-add-mod, mod-eq-of-lt, zero-mod, zero-div, zero-mul, add-zero, add-mul}
 use native.Mathlib.Omega.{arith}
 use lib.Arith.{digits-div, digits-mod}
 use lib.Dec.{eqb, ltb}
