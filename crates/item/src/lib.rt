@@ -42,6 +42,11 @@ pub enum Item {
     Running(Running),
 }
 
+impl Item {
+    // The lines of the screen: an item has no more, nor have all items of a plan together.
+    pub const LINES: u8 = 240;
+}
+
 // What stands at a place of a plan: an item and where the next begins, or why it is refused.
 pub enum Read {
     Is(Item, usize),
@@ -115,7 +120,7 @@ fn sound_full(b: Full) -> bool
     ensures { λ r. ⌜ r ≡ soundFull b ⌝ }
 {
     (1 <= b.lines)
-        & (b.lines <= 240)
+        & (b.lines <= Item::LINES)
         & (b.mode <= 4)
         & (b.address <= 524287)
         & (b.step <= 4095)
@@ -139,7 +144,7 @@ fn sound_running(b: Running) -> bool
     ensures { λ r. ⌜ r ≡ soundRunning b ⌝ }
 {
     (1 <= b.lines)
-        & (b.lines <= 240)
+        & (b.lines <= Item::LINES)
         & (b.hscroll <= 7)
         & (b.vscroll <= 7)
         & (b.width <= 2)
@@ -184,7 +189,7 @@ fn fitting(it: Item, n: u32, total: u8, next: usize) -> Read
     if !sound_item(it) {
         return Read::Bad(Refusal::Field);
     }
-    if 240 < total as u16 + lines_of(it) as u16 {
+    if (Item::LINES as u16) < total as u16 + lines_of(it) as u16 {
         return Read::Bad(Refusal::Lines);
     }
     Read::Is(it, next)

@@ -2,6 +2,8 @@
 use mathlib.Core.Path.{_≡_, refl}
 use mathlib.Core.List.{List, [], _∷_}
 use Prim.Native.Nat.{ℕ}
+use lib.ListN.{drop, replicate}
+use Rattle.refusal.specs.Sheet.{Told, done, refused}
 use Rattle.settings.specs.Settings.{off}
 use Rattle.settings.specs.Below.{overlayBelow, mapBelow, settingsBelow}
 use Rattle.settings.specs.declared.Settings.{Settings}
@@ -10,14 +12,28 @@ use Rattle.item.specs.declared.Item.{Item}
 use Rattle.item.specs.declared.Item.the-variants.{Full as full, Running as running}
 use Rattle.plan.specs.Plan.{parseFrom, rest, parse}
 use Rattle.plan.specs.Xdl.{fullRecord, runningRecord, xdlBytes}
+use Rattle.plan.specs.Compile.{compileAnswer, compileOutput}
 use Rattle.plan.specs.Meaning.{fullSettings, runningSettings, meaningFrom, meaning}
 
 -- the example of document 01, "At the edges"
+abbrev plan : List ℕ
+plan =
+    23 ∷ 0 ∷ 1 ∷ 0 ∷ 1 ∷ 0 ∷ 0 ∷ 0 ∷ 0 ∷ 0 ∷ 0 ∷ 0 ∷ 0 ∷ 0 ∷ 0 ∷ 0 ∷ 0 ∷ 0 ∷ 0 ∷ 0 ∷ 0 ∷ 0 ∷ 8 ∷ 1 ∷ 1 ∷ 1 ∷ 255 ∷ []
+
 example :
-    xdlBytes (23 ∷ 0 ∷ 1 ∷ 0 ∷ 1 ∷ 0 ∷ 0 ∷ 0 ∷ 0 ∷ 0 ∷ 0 ∷ 0 ∷ 0 ∷ 0 ∷ 0 ∷ 0 ∷ 0 ∷ 0 ∷ 0 ∷ 0 ∷ 0 ∷ 0 ∷ 8 ∷ 1 ∷ 1 ∷ 1 ∷ 255 ∷ [])
+    xdlBytes plan
     ≡ 244 ∷ 143 ∷ 0 ∷ 0 ∷ 0 ∷ 0 ∷ 0 ∷ 0 ∷ 0 ∷ 0 ∷ 0 ∷ 0 ∷ 0 ∷ 0 ∷ 0 ∷ 0 ∷ 0 ∷ 0 ∷ 7 ∷ 0 ∷ 17 ∷ 255 ∷ []
 unfolding xdlBytes parse rest parseFrom itemAt fitted fullAt runningAt soundFull soundRunning fullRecord runningRecord
 example = refl
+
+-- a buffer that the list just fills is taken, one byte less is refused 13, and what lies past the list stays
+room :
+    (compileAnswer plan 21 ≡ refused 13 0)
+    × (compileAnswer plan 22 ≡ done 22)
+    × (drop 21 (compileOutput plan (replicate 25 238)) ≡ 255 ∷ 238 ∷ 238 ∷ 238 ∷ [])
+    × (compileOutput plan (replicate 21 238) ≡ replicate 21 238)
+unfolding compileAnswer compileOutput xdlBytes parse rest parseFrom itemAt fitted fullAt runningAt soundFull soundRunning fullRecord runningRecord
+room = (refl, refl, refl, refl)
 
 -- a full band and a running-on item with the fields that matter here
 abbrev band : ℕ → ℕ → ℕ → ℕ → ℕ → ℕ → ℕ → Item

@@ -11,6 +11,7 @@ use Rattle.item.specs.declared.Item.{Item}
 use Rattle.item.specs.declared.Read.{Read}
 use Rattle.item.specs.declared.Read.the-variants.{Is, Bad}
 
+-- the items, or the first refusal and the number of its item
 pub data Parsed : Type 0 where
   good : List Item → Parsed
   bad : Refusal → ℕ → Parsed

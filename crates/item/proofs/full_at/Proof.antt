@@ -105,7 +105,9 @@ shared-slice-read-t44 c = search needs
 
 returns : tie.Need-returns
 unfolding fullAt
-returns c = simp (c .before .before .before .before .before .before .before .before .before .before .before .before .before .before .before .before .number-3 .ensures, c .before .before .before .before .before .before .before .before .before .before .before .before .before .before .before .number-2 .ensures, c .before .before .before .before .before .before .before .before .before .before .before .before .before .before .number-32 .ensures, c .before .before .before .before .before .before .before .before .before .before .before .before .before .number-22 .ensures)
+returns c =
+    let d = c .before .before .before .before .before .before .before .before .before .before .before .before .before in
+    simp (d .before .before .before .number-3 .ensures, d .before .before .number-2 .ensures, d .before .number-32 .ensures, d .number-22 .ensures)
 
 pub full-at-spec : {M : Type 1} → statement M
 full-at-spec =

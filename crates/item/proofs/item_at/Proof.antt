@@ -1,14 +1,31 @@
 -- `item::item_at` meets its contract: each return rewrites with the tests that led there. Assumes nothing.
-use mathlib.Core.Bool.{_||_}
-use Prim.Native.Nat.{_-_}
+use mathlib.Core.Bool.{true, _||_}
+use mathlib.Core.Path.{_≡_, sym, ap, subst, _∙_}
+use Prim.Native.Nat.{ℕ, _+_, _-_}
 use native.Mathlib.Omega.{arith}
-use lib.Dec.{eqb}
+use lib.Dec.{leb, eqb}
 use lib.ListN.{length}
 use borrow.Author.Needs.{needs}
 use borrow.Author.Tests.{le-leb, lt-leb, eq-eqb, ne-eqb, not-true, not-false}
-use Rattle.item.specs.Item.{itemAt}
+use denote.Ref.{now}
+use Rattle.item.specs.Item.{number2, bodySize, bodyAt, itemAt}
 use Rattle.item.proofs.item_at.Statement.{statement}
 use Rattle.item.proofs.item_at.Tie as tie
+
+header : (c : tie.Else2) → leb 4 (length (now (c .before .before .before .args .plan)) - c .before .before .before .args .at) ≡ true
+header c = le-leb _ _ (c .if2 .left)
+
+known : (c : tie.Else3) → let k = number2 (now (c .before .before .before .before .before .args .plan)) (c .before .before .before .before .before .args .at + 2) in (eqb k 1 || eqb k 2) ≡ true
+known c = subst (λ (k : ℕ). (eqb k 1 || eqb k 2) ≡ true) (c .before .number-2 .ensures) (not-false _ (c .if3 .left))
+
+sized : (c : tie.After-body-size) → c .body-size .result ≡ bodySize (number2 (now (c .before .before .before .before .before .before .args .plan)) (c .before .before .before .before .before .before .args .at + 2))
+sized c = c .body-size .ensures ∙ ap bodySize (c .before .before .number-2 .ensures)
+
+exact : (c : tie.Else4) → let b = c .before .before .before .before .before .before .before .before .args in eqb (number2 (now (b .plan)) (b .at)) (bodySize (number2 (now (b .plan)) (b .at + 2))) ≡ true
+exact c = eq-eqb _ _ (sym (c .before .number-22 .ensures) ∙ (c .if4 .left ∙ sized (c .before .before)))
+
+body : (c : tie.After-body-at) → let b = c .before .before .before .before .before .before .before .before .before .before .args in c .body-at .result ≡ bodyAt (now (b .plan)) (b .at + 4) (number2 (now (b .plan)) (b .at + 2))
+body c = c .body-at .ensures ∙ ap (bodyAt (now (c .before .before .before .before .before .before .before .before .before .before .args .plan)) (c .before .before .before .before .before .before .before .before .before .before .args .at + 4)) (c .before .before .before .before .before .before .number-2 .ensures)
 
 returns : tie.Need-returns
 unfolding itemAt
@@ -29,7 +46,9 @@ number-2-requires c κs = search needs
 
 returns-3 : tie.Need-returns-3
 unfolding itemAt
-returns-3 c = simp (le-leb _ _ (c .before .before .if2 .left), ← c .before .number-2 .ensures, not-true (eqb (c .before .number-2 .result) 1 || eqb (c .before .number-2 .result) 2) (c .if3 .taken))
+returns-3 c =
+    let e = c .before .before in
+    simp (header e, ← c .before .number-2 .ensures, not-true (eqb (c .before .number-2 .result) 1 || eqb (c .before .number-2 .result) 2) (c .if3 .taken))
 
 body-size-requires : tie.Need-body-size-requires
 body-size-requires c κs = search needs
@@ -39,7 +58,9 @@ number-2-requires-2 c κs = search needs
 
 returns-4 : tie.Need-returns-4
 unfolding itemAt
-returns-4 c = simp (le-leb _ _ (c .before .before .before .before .before .if2 .left), ← c .before .before .before .before .number-2 .ensures, not-false (eqb (c .before .before .before .before .number-2 .result) 1 || eqb (c .before .before .before .before .number-2 .result) 2) (c .before .before .before .if3 .left), ← c .before .before .body-size .ensures, ← c .before .number-22 .ensures, ne-eqb _ _ (c .if4 .taken))
+returns-4 c =
+    let e = c .before .before .before in
+    simp (header (e .before .before), known e, ← sized (c .before .before), ← c .before .number-22 .ensures, ne-eqb _ _ (c .if4 .taken))
 
 cast-if5 : tie.Need-cast-if5
 cast-if5 c = search needs
@@ -49,7 +70,10 @@ add-if5 c = search needs
 
 returns-5 : tie.Need-returns-5
 unfolding itemAt
-returns-5 c = simp (le-leb _ _ (c .before .before .before .before .before .before .if2 .left), ← c .before .before .before .before .before .number-2 .ensures, not-false (eqb (c .before .before .before .before .before .number-2 .result) 1 || eqb (c .before .before .before .before .before .number-2 .result) 2) (c .before .before .before .before .if3 .left), ← c .before .before .before .body-size .ensures, ← c .before .before .number-22 .ensures, eq-eqb _ _ (c .before .if4 .left), lt-leb _ _ (c .if5 .taken))
+returns-5 c =
+    let e = c .before in
+    let k = e .before .before .before in
+    simp (header (k .before .before), known k, exact e, ← sized (e .before .before), lt-leb _ _ (c .if5 .taken))
 
 add-body-at : tie.Need-add-body-at
 add-body-at c = search needs
@@ -71,7 +95,11 @@ fitting-requires c κs = search needs
 
 returns-6 : tie.Need-returns-6
 unfolding itemAt
-returns-6 c = simp (le-leb _ _ (c .before .before .before .before .before .before .before .before .if2 .left), ← c .before .before .before .before .before .before .before .number-2 .ensures, not-false (eqb (c .before .before .before .before .before .before .before .number-2 .result) 1 || eqb (c .before .before .before .before .before .before .before .number-2 .result) 2) (c .before .before .before .before .before .before .if3 .left), ← c .before .before .before .before .before .body-size .ensures, ← c .before .before .before .before .number-22 .ensures, eq-eqb _ _ (c .before .before .before .if4 .left), le-leb _ _ (c .before .before .if5 .left), ← c .before .body-at .ensures) (c .fitting .ensures)
+returns-6 c =
+    let e = c .before .before .before in
+    let k = e .before .before .before in
+    simp (header (k .before .before), known k, exact e, ← sized (e .before .before), le-leb _ _ (c .before .before .if5 .left), ← body (c .before))
+    (c .fitting .ensures)
 
 pub item-at-spec : {M : Type 1} → statement M
 item-at-spec =

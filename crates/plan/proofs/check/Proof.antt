@@ -1,10 +1,13 @@
 -- `plan::check` meets its contract. The loop's invariant is `Checking`. Assumes nothing.
-use mathlib.Core.Path.{sym, ap, _∙_}
+use mathlib.Core.Path.{_≡_, sym, ap, _∙_}
 use Prim.Native.Nat.{_-_}
 use native.Mathlib.Omega.{arith}
 use lib.ListN.{length}
 use borrow.Author.Needs.{needs}
+use denote.Ref.{now}
 use Rattle.item.proofs.Taken.{taken}
+use Rattle.item.specs.Item.{itemAt}
+use Rattle.item.specs.declared.Read.the-variants.{Is}
 use Rattle.plan.specs.Compile.{checkedOf}
 use Rattle.plan.proofs.Checking.{Checking, check-start, check-turn, check-bad, check-end}
 use Rattle.plan.proofs.Records.{size-le}
@@ -17,6 +20,13 @@ Inv-loop plan at₀ n₀ total₀ bytes₀ at n total bytes = Checking plan at n
 
 abbrev μ-loop : tie.MeasureT-loop
 μ-loop plan at₀ n₀ total₀ bytes₀ at n total bytes = length plan - at
+
+-- the item that this turn reads
+read :
+    (c : tie.After-r2 Inv-loop μ-loop)
+    → itemAt (now (c .before .before .before .before .before .before .before .args .plan)) (c .before .before .before .before .loop .at) (c .before .before .before .before .loop .n) (c .before .before .before .before .loop .total)
+    ≡ Is (c .r2 .given .0 .0) (c .r2 .given .0 .1 .0)
+read c = sym (c .before .before .item-at .ensures) ∙ c .r2 .given .1
 
 returns : tie.Need-returns Inv-loop μ-loop
 returns c = ap checkedOf (sym (parse-none (c .before .before .args .plan .now) (c .if1 .taken)))
@@ -31,7 +41,10 @@ enum-known-r : tie.Need-enum-known-r Inv-loop μ-loop
 enum-known-r c = search needs
 
 returns-2 : tie.Need-returns-2 Inv-loop μ-loop
-returns-2 c = check-bad _ _ _ _ _ (c .before .before .before .before .before .loop .inv) _ (c .before .before .before .before .loop-test .taken) (sym (c .before .before .before .item-at .ensures) ∙ c .before .r .given .1) ∙ ap checkedOf (sym (parse-rest _ (c .before .before .before .before .before .before .if1 .left)))
+returns-2 c =
+    let m = c .before in
+    check-bad _ _ _ _ _ (m .before .before .before .before .loop .inv) _ (m .before .before .before .loop-test .taken) (sym (m .before .before .item-at .ensures) ∙ m .r .given .1)
+    ∙ ap checkedOf (sym (parse-rest _ (m .before .before .before .before .before .if1 .left)))
 
 enum-known-r-2 : tie.Need-enum-known-r-2 Inv-loop μ-loop
 enum-known-r-2 c = search needs
@@ -46,18 +59,18 @@ lines-of-requires : tie.Need-lines-of-requires Inv-loop μ-loop
 lines-of-requires c κs = search needs
 
 add-total : tie.Need-add-total Inv-loop μ-loop
-add-total c = let i = taken _ _ _ _ _ _ (sym (c .before .before .before .before .before .item-at .ensures) ∙ c .before .before .before .r2 .given .1) in
-    omega (arith, c .lines-of .ensures, i .fits .lines)
+add-total c = omega (arith, c .lines-of .ensures, taken _ _ _ _ _ _ (read (c .before .before .before)) .fits .lines)
 
 add-n : tie.Need-add-n Inv-loop μ-loop
 add-n c = omega (arith, c .before .before .before .before .before .before .before .loop .inv)
 
 loop-less : tie.Need-loop-less Inv-loop μ-loop
-loop-less c = let i = taken _ _ _ _ _ _ (sym (c .before .before .before .before .before .item-at .ensures) ∙ c .before .before .before .r2 .given .1) in
-    omega (arith, c .before .before .before .before .before .before .loop-test .taken)
+loop-less c = let i = taken _ _ _ _ _ _ (read (c .before .before .before)) in omega (arith, c .before .before .before .before .before .before .loop-test .taken)
 
 loop-again : tie.Need-loop-again Inv-loop μ-loop
-loop-again c = check-turn _ _ _ _ _ (c .before .before .before .before .before .before .before .loop .inv) _ _ _ _ (c .before .before .before .before .before .before .loop-test .taken) (sym (c .before .before .before .before .before .item-at .ensures) ∙ c .before .before .before .r2 .given .1) (c .before .size-of .ensures) (c .lines-of .ensures)
+loop-again c =
+    let m = c .before .before .before in
+    check-turn _ _ _ _ _ (m .before .before .before .before .loop .inv) _ _ _ _ (m .before .before .before .loop-test .taken) (read m) (c .before .size-of .ensures) (c .lines-of .ensures)
 
 returns-3 : tie.Need-returns-3 Inv-loop μ-loop
 returns-3 c = check-end _ _ _ _ _ (c .before .loop .inv) (c .loop-test .left) ∙ ap checkedOf (sym (parse-rest _ (c .before .before .if1 .left)))

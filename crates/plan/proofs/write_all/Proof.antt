@@ -1,10 +1,13 @@
 -- `plan::write_all` meets its contract. The loop's invariant is `Writing`. Assumes nothing.
-use mathlib.Core.Path.{sym, _∙_}
+use mathlib.Core.Path.{_≡_, sym, _∙_}
 use Prim.Native.Nat.{_-_}
 use native.Mathlib.Omega.{arith}
 use lib.ListN.{length}
 use borrow.Author.Needs.{needs}
+use denote.Ref.{now}
 use Rattle.item.proofs.Taken.{taken}
+use Rattle.item.specs.Item.{itemAt}
+use Rattle.item.specs.declared.Read.the-variants.{Is}
 use Rattle.plan.proofs.Writing.{Writing, write-start, write-never, write-fits, write-may, write-turn, write-end}
 use Rattle.plan.proofs.write_all.Statement.{statement}
 use Rattle.plan.proofs.write_all.Tie as tie
@@ -14,6 +17,13 @@ Inv-loop plan out₀ at₀ n₀ total₀ to₀ out at n total to = Writing plan 
 
 abbrev μ-loop : tie.MeasureT-loop
 μ-loop plan out₀ at₀ n₀ total₀ to₀ out at n total to = length plan - at
+
+-- the item that this turn reads
+read :
+    (c : tie.After-r Inv-loop μ-loop)
+    → itemAt (now (c .before .before .before .before .before .before .before .args .plan)) (c .before .before .before .before .loop .at) (c .before .before .before .before .loop .n) (c .before .before .before .before .loop .total)
+    ≡ Is (c .r .given .0 .0) (c .r .given .0 .1 .0)
+read c = sym (c .before .before .item-at .ensures) ∙ c .r .given .1
 
 loop-holds : tie.Need-loop-holds Inv-loop μ-loop
 loop-holds c = write-start _ _ (c .before .before .pre .0) (c .before .before .pre .1)
@@ -43,28 +53,31 @@ part-write-record-end : tie.Need-part-write-record-end Inv-loop μ-loop
 part-write-record-end c = search needs
 
 write-record-requires : tie.Need-write-record-requires Inv-loop μ-loop
-write-record-requires c κs = write-may _ _ _ _ _ _ _ (c .before .before .before .before .before .before .loop .inv) (c .before .before .before .before .before .loop-test .taken) _ _ (sym (c .before .before .before .before .item-at .ensures) ∙ c .before .before .r .given .1)
+write-record-requires c κs = let m = c .before .before in write-may _ _ _ _ _ _ _ (m .before .before .before .before .loop .inv) (m .before .before .before .loop-test .taken) _ _ (read m)
 
 add-to : tie.Need-add-to Inv-loop μ-loop
-add-to c = let f = write-fits _ _ _ _ _ _ _ (c .before .before .before .before .before .before .before .before .before .loop .inv) (c .before .before .before .before .before .before .before .before .loop-test .taken) _ _ (sym (c .before .before .before .before .before .before .before .item-at .ensures) ∙ c .before .before .before .before .before .r .given .1) in
-    omega (arith, c .before .before .write-record .ensures .0, f, c .before .before .before .before .before .before .before .before .before .loop .inv)
+add-to c =
+    let m = c .before .before .before .before .before in
+    let l = m .before .before .before .before .loop .inv in
+    omega (arith, c .before .before .write-record .ensures .0, write-fits _ _ _ _ _ _ _ l (m .before .before .before .loop-test .taken) _ _ (read m))
 
 lines-of-requires : tie.Need-lines-of-requires Inv-loop μ-loop
 lines-of-requires c κs = search needs
 
 add-total : tie.Need-add-total Inv-loop μ-loop
-add-total c = let i = taken _ _ _ _ _ _ (sym (c .before .before .before .before .before .before .before .before .item-at .ensures) ∙ c .before .before .before .before .before .before .r .given .1) in
-    omega (arith, c .lines-of .ensures, i .fits .lines)
+add-total c = omega (arith, c .lines-of .ensures, taken _ _ _ _ _ _ (read (c .before .before .before .before .before .before)) .fits .lines)
 
 add-n : tie.Need-add-n Inv-loop μ-loop
 add-n c = omega (arith, c .before .before .before .before .before .before .before .before .before .before .loop .inv)
 
 loop-less : tie.Need-loop-less Inv-loop μ-loop
-loop-less c = let i = taken _ _ _ _ _ _ (sym (c .before .before .before .before .before .before .before .before .item-at .ensures) ∙ c .before .before .before .before .before .before .r .given .1) in
-    omega (arith, c .before .before .before .before .before .before .before .before .before .loop-test .taken)
+loop-less c = let i = taken _ _ _ _ _ _ (read (c .before .before .before .before .before .before)) in omega (arith, c .before .before .before .before .before .before .before .before .before .loop-test .taken)
 
 loop-again : tie.Need-loop-again Inv-loop μ-loop
-loop-again c = write-turn _ _ _ _ _ _ _ (c .before .before .before .before .before .before .before .before .before .before .loop .inv) (c .before .before .before .before .before .before .before .before .before .loop-test .taken) _ _ (sym (c .before .before .before .before .before .before .before .before .item-at .ensures) ∙ c .before .before .before .before .before .before .r .given .1) _ _ _ (c .before .before .before .write-record .ensures .0) (c .lines-of .ensures) (c .before .before .before .write-record .ensures .1)
+loop-again c =
+    let m = c .before .before .before .before .before .before in
+    let w = c .before .before .before .write-record in
+    write-turn _ _ _ _ _ _ _ (m .before .before .before .before .loop .inv) (m .before .before .before .loop-test .taken) _ _ (read m) _ _ _ (w .ensures .0) (c .lines-of .ensures) (w .ensures .1)
 
 same-length-2 : tie.Need-same-length-2 Inv-loop μ-loop
 same-length-2 c = c .before .loop .inv .long

@@ -74,7 +74,7 @@ mul-t42 : tie.Need-mul-t42
 mul-t42 c = omega (arith, full-fits _ (c .before .before .before .before .before .before .before .before .before .before .before .before .before .before .before .before .before .before .before .pre .1) .palettes)
 
 add-t43 : tie.Need-add-t43
-add-t43 c = omega (arith, full-fits _ (c .before .before .before .before .before .before .before .before .before .before .before .before .before .before .before .before .before .before .before .before .pre .1) .palettes, full-fits _ (c .before .before .before .before .before .before .before .before .before .before .before .before .before .before .before .before .before .before .before .before .pre .1) .width)
+add-t43 c = let f = full-fits _ (c .before .before .before .before .before .before .before .before .before .before .before .before .before .before .before .before .before .before .before .before .pre .1) in omega (arith, f .palettes, f .width)
 
 slice-aggregate-copy : tie.Need-slice-aggregate-copy
 slice-aggregate-copy c = search needs
@@ -87,7 +87,12 @@ same-length c = search needs
 
 returns : tie.Need-returns
 unfolding fullRecord
-returns c = (c .before .before .copy .ensures .0, c .before .before .copy .ensures .1 ∙ simp (c .before .before .before .before .before .before .before .before .before .before .before .before .before .before .before .before .before .before .before .before .before .before .before .overlay-bit .ensures .0, c .before .before .before .before .before .before .before .before .before .before .before .before .before .before .before .before .before .before .before .before .before .before .map-bit .ensures .0, c .before .before .before .before .before .before .before .before .before .before .before .before .before .before .before .before .before .before .before .before .before .resolution-bit .ensures .0, c .before .before .before .before .before .before .before .before .before .before .before .before .before .before .before .before .before .before .before .before .end-bit .ensures .0))
+returns c =
+    let d = c .before .before .before .before .before .before .before .before .before .before .before .before .before .before .before .before .before .before .before .before in (
+      c .before .before .copy .ensures .0,
+      c .before .before .copy .ensures .1
+          ∙ simp (d .before .before .before .overlay-bit .ensures .0, d .before .before .map-bit .ensures .0, d .before .resolution-bit .ensures .0, d .end-bit .ensures .0),
+    )
 
 pub write-full-spec : {M : Type 1} → statement M
 write-full-spec =

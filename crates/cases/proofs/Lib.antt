@@ -1,0 +1,2 @@
+-- The claim.
+pub mod Claim

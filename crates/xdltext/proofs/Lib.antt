@@ -1,0 +1,2 @@
+-- Laws of the text.
+mod Line

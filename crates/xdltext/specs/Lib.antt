@@ -1,0 +1,2 @@
+-- How bytes are printed.
+pub mod Hex
