@@ -1,0 +1,79 @@
+/* The desk board for C and Rust callers: a model of the VBXE card, FX core 1.24.
+ *
+ * Every call returns 0 where it was done, or the number of its refusal, as on the refusal sheet (docs/HELP.md).
+ * A refused call changes nothing that was lent to it: no byte of memory, no word of a state, no word of a report.
+ * DESKBOARD_SHORT is no number of the sheet: a lent buffer of words is shorter than this page says. It is tested
+ * before everything else.
+ *
+ * States are lent as words, one 32-bit word a field, in the order below. Words past the last stay as they are. A word
+ * that is out of its field's type (a byte above 255, a switch that is neither 0 nor 1, a row or column above 65,535)
+ * makes the state unsound: refusal 15, in its order.
+ *
+ * Link with the archive that `rt staticlib capi` writes: target/staticlib/libcapi.a.
+ */
+#ifndef DESKBOARD_H
+#define DESKBOARD_H
+
+#include <stddef.h>
+#include <stdint.h>
+
+#ifdef __cplusplus
+extern "C" {
+#endif
+
+/* A lent buffer of words is too short. */
+#define DESKBOARD_SHORT 255u
+
+/* A board is 35 words:
+ *   0 VIDEO_CONTROL   1 XDL_ADR   2 BL_ADR   3..6 P0..P3
+ *   7 IRQE (0, 1)     8 IRQF (0, 1)
+ *   9 list address   10 flags (0 idle, 1 BCB_LOAD, 2 BUSY)   11 collision code
+ *  12..32 the 21 bytes of the block, as the manual orders them
+ *  33 row            34 column
+ */
+#define DESKBOARD_BOARD_WORDS 35u
+
+/* The settings of a line are 19 words:
+ *   0 mode (0 off, 1 text, 2 SR, 3 HR, 4 LR)   1 overlay address   2 overlay step
+ *   3 hscroll   4 vscroll   5 font   6 text counter
+ *   7 map on (0, 1)   8 map address   9 map step   10 map hscroll   11 map vscroll
+ *  12 field width    13 field height  14 field counter
+ *  15 width          16 overlay palette   17 playfield palette   18 priority
+ */
+#define DESKBOARD_SETTINGS_WORDS 19u
+
+/* A frame is 24 words: 0..18 its settings, 19 list position, 20 repeat, 21 line, 22 ended (0, 1), 23 on (0, 1). */
+#define DESKBOARD_FRAME_WORDS 24u
+
+/* A new board. */
+uint32_t deskboard_new(uint32_t *board, size_t board_len);
+
+/* Registers, offsets 0x40 to 0x5F: refusals 15, 3. A value read goes to report[0]. */
+uint32_t deskboard_write(uint32_t *board, size_t board_len, uint32_t offset, uint8_t value);
+uint32_t deskboard_read(const uint32_t *board, size_t board_len, uint32_t offset, uint32_t *report, size_t report_len);
+
+/* RESET: refusal 15. */
+uint32_t deskboard_reset(uint32_t *board, size_t board_len);
+
+/* One tick, refusals 1, 15; a run, refusals 1, 15, 2. report[0] is ticks done, report[1] accesses made. */
+uint32_t deskboard_tick(uint32_t *board, size_t board_len, uint8_t *mem, size_t mem_len, uint32_t *report, size_t report_len);
+uint32_t deskboard_run(uint32_t *board, size_t board_len, uint8_t *mem, size_t mem_len, uint32_t budget, uint32_t *report, size_t report_len);
+
+/* Frame start, refusal 15: makes a frame from a board. */
+uint32_t deskboard_start(const uint32_t *board, size_t board_len, uint32_t *frame, size_t frame_len);
+
+/* The next line, refusals 1, 15, 4: the frame goes on, and the line's settings go to settings[0..18]. */
+uint32_t deskboard_next_line(uint32_t *frame, size_t frame_len, const uint8_t *mem, size_t mem_len, uint32_t *settings, size_t settings_len);
+
+/* Compiles a plan: refusals 6, 5, 7 to 11, 12, 13. report[0] is the number of bytes, or the item of the refusal: of this
+ * call alone a refusal writes its report. report has 1 word. */
+uint32_t deskboard_compile(const uint8_t *plan, size_t plan_len, uint8_t *out, size_t out_len, uint32_t *report, size_t report_len);
+
+/* Installs bytes at an address of video memory: refusals 1, 14, 13. */
+uint32_t deskboard_install(uint8_t *mem, size_t mem_len, const uint8_t *list, size_t list_len, uint32_t address);
+
+#ifdef __cplusplus
+}
+#endif
+
+#endif
