@@ -1,0 +1,220 @@
+// The cases of document 01, "At the edges", that are not starred, and one case for each of its traps, where a program that
+// fell into it would print something else.
+use blitter::RunReport;
+use board::Board;
+use frame::Frame;
+use frame::FrameStart;
+use frame::LineReport;
+use settings::Settings;
+
+fn yes_no(t: bool) {
+    if t {
+        print::text(b"yes\n");
+    } else {
+        print::text(b"no\n");
+    }
+}
+
+fn told(report: RunReport) {
+    match report {
+        RunReport::Ran { ticks, accesses } => {
+            print::number(ticks as u64);
+            print::text(b" ticks, ");
+            print::number(accesses as u64);
+            print::text(b" accesses\n");
+        }
+        RunReport::Refused(why) => print::refused(why, 0),
+    }
+}
+
+// A board that was told to start its list at 0.
+fn started() -> Board {
+    let board = Board::new();
+    let changed = board.write(0x53, 1);
+    changed.board
+}
+
+// Installs a list at 0, starts it, runs it and prints what is reported and the collision code.
+fn run(mem: &mut [u8], list: &[u8]) {
+    vram::install(mem, list, 0);
+    let board = started();
+    let ran = board.run(mem, 1000);
+    let report = ran.report;
+    told(report);
+    print::text(b"  code ");
+    let after = ran.board;
+    let blitter = after.blitter;
+    print::number(blitter.code as u64);
+    print::text(b"\n");
+}
+
+// Four bytes from an address on.
+fn cells(mem: &[u8], address: u32) {
+    print::text(b"  cells ");
+    print::hex(vram::byte_at(mem, address, 0));
+    print::hex(vram::byte_at(mem, address, 1));
+    print::hex(vram::byte_at(mem, address, 2));
+    print::hex(vram::byte_at(mem, address, 3));
+    print::text(b"\n");
+}
+
+fn code(d: u8) {
+    print::text(b"mode 1, s=1, mask 02, d=");
+    print::number(d as u64);
+    let stroke = mode::stroke_of(1, 2, 1, d, 0);
+    print::text(b": code ");
+    print::number(stroke.code as u64);
+    print::text(b"\n");
+}
+
+fn steps_and_codes() {
+    print::text(b"step y bytes FF 3F: -1? ");
+    yes_no(step::step_y(0xFF, 0x3F) == -1);
+    code(63);
+    code(64);
+}
+
+fn copy_and_fill(mem: &mut [u8]) {
+    print::text(b"copy of 4 bytes, mode 0: ");
+    run(
+        mem,
+        b"\x00\x10\x00\x00\x00\x01\x00\x20\x00\x00\x00\x01\x03\x00\x00\xFF\x00\x00\x00\x00\x00",
+    );
+    print::text(b"as fill: ");
+    run(
+        mem,
+        b"\x00\x10\x00\x00\x00\x01\x00\x20\x00\x00\x00\x01\x03\x00\x00\x00\x55\x00\x00\x00\x00",
+    );
+    cells(mem, 0x2000);
+}
+
+// A run of a new board, which has nothing to do.
+fn idle(mem: &mut [u8], budget: u32) {
+    let board = Board::new();
+    let ran = board.run(mem, budget);
+    let report = ran.report;
+    told(report);
+}
+
+fn lengths(mem: &mut [u8]) {
+    if mem.len() == 16384 {
+        print::text(b"L=16,384: ");
+        idle(mem, 0);
+        print::text(b"L=16,383: ");
+        idle(&mut mem[0..16383], 0);
+    }
+}
+
+fn budgets(mem: &mut [u8]) {
+    print::text(b"budget 1,000,000: ");
+    idle(mem, Board::BUDGET);
+    print::text(b"budget 1,000,001: ");
+    idle(mem, 1000001);
+}
+
+// The first block writes 77h over the XOR mask of the second, which then fills 3000h with it.
+fn trap_list(mem: &mut [u8]) {
+    print::text(b"a block overwrites a later one: ");
+    run(
+        mem,
+        b"\0\0\0\0\0\0\x25\0\0\0\0\0\0\0\0\0\x77\0\0\0\x08\0\0\0\0\0\0\x00\x30\0\0\0\0\0\0\0\0\x09\0\0\0\0",
+    );
+    cells(mem, 0x3000);
+}
+
+// d = 2 and mask 02 share a bit, but 2 is in the range of mask bit 0.
+fn trap_mask(mem: &mut [u8]) {
+    vram::install(mem, b"\x02", 0x3100);
+    print::text(b"collision by ranges, not by bits: ");
+    run(mem, b"\0\0\0\0\0\0\x00\x31\0\0\0\0\0\0\0\0\x01\x02\0\0\x01");
+    cells(mem, 0x3100);
+}
+
+// Zoomed by 2, the destination still goes byte by byte.
+fn trap_zoom(mem: &mut [u8]) {
+    vram::install(mem, b"\x01\x02", 0x3200);
+    print::text(b"zoom 2 does not zoom the step: ");
+    run(
+        mem,
+        b"\x00\x32\0\0\0\x01\x00\x33\0\0\0\x01\x01\0\0\xFF\0\0\x01\0\0",
+    );
+    cells(mem, 0x3300);
+}
+
+// Two rows of two bytes, 16 apart.
+fn trap_rows(mem: &mut [u8]) {
+    print::text(b"step y counts from the row's begin: ");
+    run(
+        mem,
+        b"\0\0\0\0\0\0\x00\x34\0\x10\0\x01\x01\0\x01\0\xAA\0\0\0\0",
+    );
+    cells(mem, 0x3400);
+    cells(mem, 0x3410);
+    cells(mem, 0x3412);
+}
+
+fn line(s: Settings) {
+    let overlay = s.overlay;
+    print::text(b" ");
+    print::number(overlay.address as u64);
+    print::text(b":");
+    print::number(overlay.counter as u64);
+}
+
+// The frame's next line, and the frame after it.
+fn next(frame: Frame, mem: &[u8]) -> Frame {
+    let given = frame.next_line(mem);
+    let report = given.report;
+    match report {
+        LineReport::Line(s) => line(s),
+        LineReport::Refused(why) => print::refused(why, 0),
+    }
+    given.frame
+}
+
+// The overlay address and the text counter of ten lines.
+fn lines(frame: Frame, mem: &[u8]) {
+    let mut frame = frame;
+    let mut left: u8 = 10;
+    while 0 < left {
+        frame = next(frame, mem);
+        left -= 1;
+    }
+    print::text(b"\n");
+}
+
+// Switches the list at 0 on, and starts a frame.
+fn show(mem: &[u8]) {
+    let board = Board::new();
+    let changed = board.write(0x40, 1);
+    let on = changed.board;
+    let start = Frame::start(on);
+    match start {
+        FrameStart::Started(frame) => lines(frame, mem),
+        FrameStart::Refused(why) => print::refused(why, 0),
+    }
+}
+
+// Text at 0, step 160: three lines, then six that run on. The row goes on, and steps after its eighth line.
+fn trap_text(mem: &mut [u8]) {
+    let plan =
+        b"\x17\0\x01\0\x03\x01\0\0\0\xA0\0\0\0\0\0\0\0\0\0\0\0\0\x08\x08\x01\x01\xFF\x07\0\x02\0\x06\0\0\0\x01\x01\xFF";
+    let mut list = [0u8; 30];
+    plan::compile(plan, &mut list);
+    vram::install(mem, &list, 0);
+    print::text(b"text steps every eight lines, and runs on:");
+    show(mem);
+}
+
+fn main() {
+    let mut mem = [0u8; 16384];
+    steps_and_codes();
+    copy_and_fill(&mut mem);
+    lengths(&mut mem);
+    budgets(&mut mem);
+    trap_list(&mut mem);
+    trap_mask(&mut mem);
+    trap_zoom(&mut mem);
+    trap_rows(&mut mem);
+    trap_text(&mut mem);
+}
