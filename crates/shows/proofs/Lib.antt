@@ -1,1 +1,4 @@
--- The theorem.
+-- The proof of demand 3.
+mod Pointed
+mod Holding
+mod Seen
