@@ -2,3 +2,5 @@
 mod Pointed
 mod Holding
 mod Seen
+mod Reading
+mod Walk
