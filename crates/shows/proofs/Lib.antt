@@ -4,3 +4,4 @@ mod Holding
 mod Seen
 mod Reading
 mod Walk
+pub mod Theorem
