@@ -5,3 +5,4 @@ mod Seen
 mod Reading
 mod Walk
 pub mod Theorem
+mod Instance

@@ -25,16 +25,50 @@ use Rattle.shows.specs.Shows.{Holds}
 odd : (x n : ℕ) → x ≡ n → n % 2 ≡ 1 → eqb (x % 2) 1 ≡ true
 odd x n e h = eq-eqb (x % 2) 1 (ap (λ (y : ℕ). y % 2) e ∙ h)
 
--- Control bytes. Those of a full band say what their four parts say: o is OVOFF, TMON or GMON, q MAPON or MAPOFF, r HR or LR, e END.
-module _ (o q r e : ℕ) (ho : o ≤ 4) (hq : q ≤ 16) (q8 : q % 8 ≡ 0) (hr : r ≤ 32) (r16 : r % 16 ≡ 0) (he : e ≤ 128) (e128 : e % 128 ≡ 0) where
+-- Control bytes: what the mode of a band, its map and END are written as.
+record ModeBits (m : ℕ) : Type 0 where
+  low : overlayBit m ≤ 4
+  high : resolutionBit m ≤ 32
+  apart : resolutionBit m % 16 ≡ 0
+  back : (old : ℕ) → modeOf (overlayBit m) (resolutionBit m) old ≡ m
+
+mode-bits : (m : ℕ) → m ≤ 4 → ModeBits m
+mode-bits zero h = record { low = omega arith; high = omega arith; apart = refl; back = λ old. refl }
+mode-bits (suc zero) h = record { low = omega arith; high = omega arith; apart = refl; back = λ old. refl }
+mode-bits (suc (suc zero)) h = record { low = omega arith; high = omega arith; apart = refl; back = λ old. refl }
+mode-bits (suc (suc (suc zero))) h = record { low = omega arith; high = omega arith; apart = refl; back = λ old. refl }
+mode-bits (suc (suc (suc (suc zero)))) h = record { low = omega arith; high = omega arith; apart = refl; back = λ old. refl }
+mode-bits (suc (suc (suc (suc (suc m))))) h = absurd (omega arith)
+
+record MapBit (p : ℕ) : Type 0 where
+  high : mapBit p ≤ 16
+  apart : mapBit p % 8 ≡ 0
+  back : (old : Bool) → mapOf (mapBit p) old ≡ eqb p 1
+
+map-bit : (p : ℕ) → p ≤ 1 → MapBit p
+map-bit zero h = record { high = omega arith; apart = refl; back = λ old. refl }
+map-bit (suc zero) h = record { high = omega arith; apart = refl; back = λ old. refl }
+map-bit (suc (suc p)) h = absurd (omega arith)
+
+record EndBit (last : Bool) : Type 0 where
+  high : endBit last ≤ 128
+  apart : endBit last % 128 ≡ 0
+  back : bit (endBit last) 7 ≡ last
+
+end-bit : (last : Bool) → EndBit last
+end-bit true = record { high = omega arith; apart = refl; back = refl }
+end-bit false = record { high = omega arith; apart = refl; back = refl }
+
+-- the control bytes of a full band, out of their four parts: each part is read as if it stood alone
+module _ (m p : ℕ) (last : Bool) (o : ModeBits m) (q : MapBit p) (e : EndBit last) where
   abbrev c : ℕ
-  c = 224 + o + q
+  c = 224 + overlayBit m + mapBit p
 
   abbrev d : ℕ
-  d = 15 + r + e
+  d = 15 + resolutionBit m + endBit last
 
-  announced : readback.Full c d
-  announced =
+  full-announced : readback.Full c d
+  full-announced =
       let low : d % 16 ≡ 15 = omega arith in
       record {
         rptl = odd (c / 32) 7 (omega arith) refl;
@@ -46,73 +80,30 @@ module _ (o q r e : ℕ) (ho : o ≤ 4) (hq : q ≤ 16) (q8 : q % 8 ≡ 0) (hr :
         ovatt = eq-eqb (d / 8 % 2) 1 (omega arith);
       }
 
-  mode-part : (old : ℕ) → modeOf c d old ≡ modeOf o r old
-  mode-part old =
-      let one : c % 8 ≡ o % 8 = omega arith in
-      let two : d / 16 % 4 ≡ r / 16 % 4 = omega arith in
-      simp (one, two)
+  full-mode : (old : ℕ) → modeOf c d old ≡ m
+  full-mode old =
+      let one : c % 8 ≡ overlayBit m % 8 = omega arith in
+      let two : d / 16 % 4 ≡ resolutionBit m / 16 % 4 = omega arith in
+      simp (one, two) (o .back old)
 
-  map-part : (old : Bool) → mapOf c old ≡ mapOf q old
-  map-part old =
-      let one : c / 8 % 4 ≡ q / 8 % 4 = omega arith in
-      simp one
+  full-map : (old : Bool) → mapOf c old ≡ eqb p 1
+  full-map old =
+      let one : c / 8 % 4 ≡ mapBit p / 8 % 4 = omega arith in
+      simp one (q .back old)
 
-  end-part : bit d 7 ≡ bit e 7
-  end-part =
-      let one : d / 128 ≡ e / 128 = omega arith in
-      ap (λ (x : ℕ). eqb (x % 2) 1) one
+  full-end : bit d 7 ≡ last
+  full-end =
+      let one : d / 128 ≡ endBit last / 128 = omega arith in
+      ap (λ (x : ℕ). eqb (x % 2) 1) one ∙ e .back
 
--- what the mode of a band is written as
-record Mode (m : ℕ) : Type 0 where
-  low : overlayBit m ≤ 4
-  high : resolutionBit m ≤ 32
-  apart : resolutionBit m % 16 ≡ 0
-  back : (old : ℕ) → modeOf (overlayBit m) (resolutionBit m) old ≡ m
+-- those of a running-on item
+running-announced : (last : Bool) → readback.Running 160 (9 + endBit last)
+running-announced true = record { mode = refl; map = refl; rptl = refl; ovadr = refl; ovscrl = refl; chbase = refl; mapadr = refl; mappar = refl; ovatt = refl }
+running-announced false = record { mode = refl; map = refl; rptl = refl; ovadr = refl; ovscrl = refl; chbase = refl; mapadr = refl; mappar = refl; ovatt = refl }
 
-mode-of : (m : ℕ) → m ≤ 4 → Mode m
-mode-of zero h = record { low = omega arith; high = omega arith; apart = refl; back = λ old. refl }
-mode-of (suc zero) h = record { low = omega arith; high = omega arith; apart = refl; back = λ old. refl }
-mode-of (suc (suc zero)) h = record { low = omega arith; high = omega arith; apart = refl; back = λ old. refl }
-mode-of (suc (suc (suc zero))) h = record { low = omega arith; high = omega arith; apart = refl; back = λ old. refl }
-mode-of (suc (suc (suc (suc zero)))) h = record { low = omega arith; high = omega arith; apart = refl; back = λ old. refl }
-mode-of (suc (suc (suc (suc (suc m))))) h = absurd (omega arith)
-
--- what its map is written as
-record MapBit (p : ℕ) : Type 0 where
-  high : mapBit p ≤ 16
-  apart : mapBit p % 8 ≡ 0
-  back : (old : Bool) → mapOf (mapBit p) old ≡ eqb p 1
-
-map-of : (p : ℕ) → p ≤ 1 → MapBit p
-map-of zero h = record { high = omega arith; apart = refl; back = λ old. refl }
-map-of (suc zero) h = record { high = omega arith; apart = refl; back = λ old. refl }
-map-of (suc (suc p)) h = absurd (omega arith)
-
--- and END
-record EndBit (last : Bool) : Type 0 where
-  high : endBit last ≤ 128
-  apart : endBit last % 128 ≡ 0
-  back : bit (endBit last) 7 ≡ last
-  running : readback.Running 160 (9 + endBit last)
-  running-back : bit (9 + endBit last) 7 ≡ last
-
-end-of : (last : Bool) → EndBit last
-end-of true =
-    record {
-      high = omega arith;
-      apart = refl;
-      back = refl;
-      running = record { mode = refl; map = refl; rptl = refl; ovadr = refl; ovscrl = refl; chbase = refl; mapadr = refl; mappar = refl; ovatt = refl };
-      running-back = refl;
-    }
-end-of false =
-    record {
-      high = omega arith;
-      apart = refl;
-      back = refl;
-      running = record { mode = refl; map = refl; rptl = refl; ovadr = refl; ovscrl = refl; chbase = refl; mapadr = refl; mappar = refl; ovatt = refl };
-      running-back = refl;
-    }
+running-end : (last : Bool) → bit (9 + endBit last) 7 ≡ last
+running-end true = refl
+running-end false = refl
 
 -- Data bytes: what each group makes of the bytes that an item's field is written as.
 module _ (x a b : ℕ) (p : a ≡ x % 256) (q : b ≡ x / 256 % 256) where
@@ -163,19 +154,14 @@ module _ (mem : List ℕ) (r : Reader) where
   unfolding fullRecord fullSettings
   read-full b last s h =
       let f = full-fits b s in
-      let m = mode-of (b .mode) (f .mode) in
-      let p = map-of (b .map) (f .map) in
-      let e = end-of last in
-      let o = overlayBit (b .mode) in
-      let q = mapBit (b .map) in
-      let t = resolutionBit (b .mode) in
-      let z = endBit last in
-      let full = announced o q t z (m .low) (p .high) (p .apart) (m .high) (m .apart) (e .high) (e .apart) in
-      let mode = mode-part o q t z (m .low) (p .high) (p .apart) (m .high) (m .apart) (e .high) (e .apart) (r .settings .overlay .mode) ∙ m .back (r .settings .overlay .mode) in
-      let on = map-part o q t z (m .low) (p .high) (p .apart) (m .high) (m .apart) (e .high) (e .apart) (r .settings .map .on) ∙ p .back (r .settings .map .on) in
-      let ended = end-part o q t z (m .low) (p .high) (p .apart) (m .high) (m .apart) (e .high) (e .apart) ∙ e .back in
-      by-control mem r (224 + o + q) (15 + t + z) (h 0 (lit< tt)) (h 1 (lit< tt))
-      ∙ (full-record mem r (224 + o + q) (15 + t + z) full
+      let m = mode-bits (b .mode) (f .mode) in
+      let p = map-bit (b .map) (f .map) in
+      let e = end-bit last in
+      let mode = full-mode (b .mode) (b .map) last m p e (r .settings .overlay .mode) in
+      let on = full-map (b .mode) (b .map) last m p e (r .settings .map .on) in
+      let ended = full-end (b .mode) (b .map) last m p e in
+      by-control mem r _ _ (h 0 (lit< tt)) (h 1 (lit< tt))
+      ∙ (full-record mem r _ _ (full-announced (b .mode) (b .map) last m p e)
       ∙ λ i. record {
         settings = record {
           overlay = record {
@@ -210,10 +196,9 @@ module _ (mem : List ℕ) (r : Reader) where
   unfolding runningRecord runningSettings
   read-running b last s h =
       let f = running-fits b s in
-      let e = end-of last in
       let v = r .settings .overlay in
-      by-control mem r 160 (9 + endBit last) (h 0 (lit< tt)) (h 1 (lit< tt))
-      ∙ (running-record mem r 160 (9 + endBit last) (e .running)
+      by-control mem r _ _ (h 0 (lit< tt)) (h 1 (lit< tt))
+      ∙ (running-record mem r _ _ (running-announced last)
       ∙ λ i. record {
         settings = record {
           overlay = record {
@@ -230,5 +215,5 @@ module _ (mem : List ℕ) (r : Reader) where
         };
         position = (at + 8) % 524288;
         repeat = h 2 (lit< tt) i;
-        ended = e .running-back i;
+        ended = running-end last i;
       })

@@ -1,24 +1,23 @@
 -- Demand 3: memory that holds a compiled plan's list shows the plan, on each of the 240 lines; installing the list makes memory hold it. Assumes nothing.
-use mathlib.Core.Path.{_≡_, refl, sym, ap, _∙_, subst}
+use mathlib.Core.Path.{_≡_, refl, ap, _∙_, subst}
+use mathlib.Core.Bool.{true}
 use mathlib.Core.List.{List, [], _∷_}
-use Prim.Native.Nat.{ℕ, zero, suc, _+_, _≤_, _<_}
+use Prim.Native.Nat.{ℕ, zero, suc, _+_, _<_}
 use native.Mathlib.Omega.{arith}
 use lib.ListN.{length, take, drop, getD, set}
 use lib.Seq.{take-at}
-use mathlib.Core.Bool.{true}
 use Rattle.refusal.specs.Sheet.{Told, done}
 use Rattle.vram.specs.Memory.{goodLength, place}
 use Rattle.vram.specs.Install.{poured, installAnswer, installMemory}
-use Rattle.vram.proofs.ReadBack.{takes, installed-byte, install-length}
-use Rattle.vram.proofs.ReadBack as readback
-use Rattle.settings.specs.declared.Settings.{Settings}
+use Rattle.vram.proofs.ReadBack as install
 use Rattle.board.specs.declared.Board.{Board}
 use Rattle.frame.specs.Frame.{startOf}
 use Rattle.frame.specs.declared.Frame.{Frame}
 use Rattle.frame.proofs.Sound.{sound-start}
 use Rattle.plan.specs.Plan.{parse, itemsOf}
-use Rattle.plan.specs.Xdl.{bytesOf, xdlBytes}
+use Rattle.plan.specs.Xdl.{xdlBytes}
 use Rattle.plan.specs.Compile.{compileOutput}
+use Rattle.plan.specs.Meaning.{planMeans}
 use Rattle.plan.proofs.Compiling.{accepted}
 use Rattle.plan.proofs.Valid.{all-sound, starts-full, xdl-at-most, xdl-bytes}
 use Rattle.shows.specs.Shows.{Bytes, started, lineOf, Holds, Given, listOf, Held, Installed}
@@ -48,42 +47,37 @@ module _ (plan out mem : List ℕ) (n address video : ℕ) (b : Board) (g : Give
       let a = accepted plan out n (g .compiled) in
       ap (take n) (a .output) ∙ take-at (xdlBytes plan) (drop n out) n (a .count)
 
-  -- a memory of bytes and of a board's length that holds the list
-  shown-by : (m : List ℕ) → Bytes m → goodLength (length m) ≡ true → Holds m address list → (k : ℕ) → k < 240 → lineOf (started address video b) m k ≡ done (Rattle.plan.specs.Meaning.planMeans plan k)
+  -- any memory of bytes, of a board's length, that holds the list
+  shown-by :
+      (m : List ℕ) → Bytes m → goodLength (length m) ≡ true → Holds m address list
+      → (k : ℕ) → k < 240 → lineOf (started address video b) m k ≡ done (planMeans plan k)
   unfolding xdlBytes
   shown-by m bytes good h k lt =
       let items = itemsOf (parse plan) in
       let e = accepted plan out n (g .compiled) .items in
-      let holds = subst (Holds m address) list-is h in
       ap (λ (t : Told Frame). lineOf t m k) (started-is b address video (g .sound) (g .at-most) (g .on))
       ∙ (told-seen m good bytes k (startOf address 1) (sound-start address 1 (omega (arith, g .at-most))) refl (omega arith)
-      ∙ ap done (walked m items address (all-sound plan items e) (starts-full plan items e) holds k))
+      ∙ ap done (walked m items address (all-sound plan items e) (starts-full plan items e) (subst (Holds m address) list-is h) k))
 
-  installs : installAnswer mem list address ≡ done tt
-  installs =
-      takes mem list address (record { board = g .board; address = g .at-most; room = rw list-is (xdl-at-most plan) })
+  -- installing
+  install-done : installAnswer mem list address ≡ done tt
+  install-done =
+      install.takes mem list address (record { board = g .board; address = g .at-most; room = rw list-is (xdl-at-most plan) })
 
-  after : List ℕ
-  after = installMemory mem list address
-
-  after-bytes : Bytes after
-  unfolding after
-  after-bytes =
-      rw (readback.installed mem list address installs)
+  installed-bytes : Bytes (installMemory mem list address)
+  installed-bytes =
+      rw (install.installed mem list address install-done)
       (poured-bytes (length mem) mem address list (g .mem-bytes) (rw list-is (xdl-bytes plan (g .plan-bytes))))
+
+  installed-shows : (k : ℕ) → k < 240 → lineOf (started address video b) (installMemory mem list address) k ≡ done (planMeans plan k)
+  installed-shows =
+      shown-by (installMemory mem list address) installed-bytes
+      (ap goodLength (install.install-length mem list address) ∙ g .board)
+      (install.installed-byte mem list address install-done)
 
 pub held : Held
 held plan out mem n address video b g = shown-by plan out mem n address video b g mem (g .mem-bytes) (g .board)
 
 pub installed : Installed
-unfolding after
 installed plan out mem n address video b g =
-    let list = listOf plan out n in
-    let yes-done = installs plan out mem n address video b g in
-    (
-      yes-done,
-      shown-by plan out mem n address video b g (installMemory mem list address)
-      (after-bytes plan out mem n address video b g)
-      (ap goodLength (install-length mem list address) ∙ g .board)
-      (installed-byte mem list address yes-done),
-    )
+    (install-done plan out mem n address video b g, installed-shows plan out mem n address video b g)
