@@ -5,5 +5,9 @@ pub mod Run
 mod Single
 mod Burst
 mod Going
+pub mod Machine
+pub mod Whole
+pub mod Bytes
 pub mod Answer
+pub mod Pieces
 pub mod Once

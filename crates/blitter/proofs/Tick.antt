@@ -1,15 +1,14 @@
--- Laws of a tick: it keeps soundness and memory's length, and makes at most 21 accesses. Assumes nothing.
-use mathlib.Core.Path.{_≡_, refl, ap, _∙_}
-use mathlib.Core.Bool.{Bool, true, false, cond}
+-- Laws of a tick: it keeps soundness and memory's length, and makes at most 21 accesses on load and 3 otherwise. Assumes nothing.
+use mathlib.Core.Path.{_≡_, refl}
+use mathlib.Core.Bool.{cond}
 use mathlib.Core.List.{List}
-use Prim.Native.Nat.{ℕ, _+_, _%_, _≤_, _<_}
+use Prim.Native.Nat.{ℕ, _+_, _≤_, _<_}
 use native.Mathlib.Omega.{arith}
 use lib.Dec.{eqb, ltb}
 use lib.ListN.{length}
-use borrow.Author.Tests.{eqb-false, ltb-true}
+use borrow.Author.Tests.{eqb-false, ltb-true, ne-eqb}
 use Rattle.laws.proofs.Choice.{by-cond}
 use Rattle.block.specs.Block.{columnsOf, rowsOf, nextOf}
-use Rattle.block.specs.Byte.{written, struckAt}
 use Rattle.block.proofs.Byte.{written-length, struck-small}
 use Rattle.blitter.specs.declared.Blitter.{Blitter}
 use Rattle.blitter.specs.Tick.{loadTick, busyAt, ended, advanced, byteTick, tickBlitter, tickMemory, tickCount}
@@ -27,6 +26,13 @@ tick-small b mem =
     let Few : (ℕ → Type 0) = λ n. n ≤ 21 in
     by-cond Few (eqb (b .flags) 0) _ _ (λ _. omega arith)
     (λ _. by-cond Few (eqb (b .flags) 1) _ _ (λ _. omega arith) (λ _. omega (arith, struck-small (b .block) (b .row) (b .col) mem (b .code))))
+
+-- 3 where it is no load
+pub tick-few : (b : Blitter) (mem : List ℕ) → (b .flags ≡ 1 → ⊥) → tickCount b mem ≤ 3
+unfolding tickCount
+tick-few b mem n1 =
+    rw (ne-eqb (b .flags) 1 n1)
+    (by-cond (λ (n : ℕ). n ≤ 3) (eqb (b .flags) 0) _ _ (λ _. omega arith) (λ _. struck-small (b .block) (b .row) (b .col) mem (b .code)))
 
 pub load-sound : (b : Blitter) (mem : List ℕ) → Sound (loadTick b mem)
 unfolding loadTick

@@ -3,3 +3,4 @@ pub mod State
 pub mod Tick
 pub mod Run
 pub mod Engine
+pub mod Machine

@@ -1,3 +1,5 @@
 -- Laws of the board.
 pub mod Answer
+pub mod Sound
+pub mod Pieces
 mod Once
