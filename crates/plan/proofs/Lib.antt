@@ -6,4 +6,5 @@ mod Checking
 mod Writing
 pub mod Compiling
 mod Cases
+pub mod Worked
 mod Once
