@@ -6,5 +6,4 @@ mod Checking
 mod Writing
 pub mod Compiling
 mod Cases
-pub mod Worked
 mod Once

@@ -1,12 +1,12 @@
 -- Memory that holds two lists, one behind the other. Assumes nothing.
 use mathlib.Core.Path.{_≡_, ap, _∙_}
 use mathlib.Core.List.{List, _++_}
-use Prim.Native.Nat.{ℕ, _+_, _%_, _<_}
+use Prim.Native.Nat.{ℕ, _+_, _%_}
 use native.Mathlib.Nat.{add-assoc, mod-add-mod}
 use native.Mathlib.Omega.{arith}
 use lib.ListN.{length, getD, length-append, List·getD-append}
 use lib.Seq.{getD-append-add}
-use Rattle.vram.specs.Memory.{place, cellAt, byteAt}
+use Rattle.vram.specs.Memory.{cellAt}
 use Rattle.shows.specs.Shows.{Holds}
 
 module _ (mem : List ℕ) (a : ℕ) (xs ys : List ℕ) (h : Holds mem a (xs ++ ys)) where

@@ -1,25 +1,29 @@
--- The theorem at the two plans that are worked out by hand, with every number written out. Memory is 16,384 zeros, the board is new, and the list begins
--- at 524,286, so that it wraps behind two bytes. Assumes nothing.
+-- The theorem at two plans, with every number written out: the plan of document 01's example, and a text band with a map and four lines that run on.
+-- Memory is 16,384 zeros, the board is new, and the list begins at 524,286, so that it wraps behind two bytes. Assumes nothing.
 use mathlib.Core.Path.{_≡_, refl, ap, _∙_}
-use mathlib.Core.Bool.{Bool, true, _&&_}
-use mathlib.Core.List.{List, [], _∷_}
+use mathlib.Core.Bool.{Bool, true, false, _&&_}
+use mathlib.Core.List.{List, [], _∷_, _++_}
 use Prim.Native.Nat.{ℕ, zero, suc, _<_}
 use native.Mathlib.Omega.{arith}
 use lib.Count.{ones}
 use lib.Dec.{lit<, ltb}
-use lib.ListN.{getD, replicate, length-replicate}
+use lib.ListN.{replicate, length-replicate}
 use borrow.Author.Tests.{ltb-true}
 use Rattle.laws.proofs.Choice.{both}
 use Rattle.refusal.specs.Sheet.{Told, done}
 use Rattle.vram.specs.Memory.{goodLength}
 use Rattle.vram.specs.Install.{installMemory}
+use Rattle.settings.specs.Settings.{off}
+use Rattle.settings.specs.Below.{overlayBelow, mapBelow, settingsBelow}
 use Rattle.settings.specs.declared.Settings.{Settings}
 use Rattle.block.specs.Block.{noSide, noneSide, noBlock, isNone}
 use Rattle.blitter.specs.State.{soundBlitter}
 use Rattle.board.specs.Board.{newBoard, soundBoard}
+use Rattle.item.specs.Item.{fullAt, runningAt, soundFull, soundRunning, fitted, itemAt}
+use Rattle.plan.specs.Plan.{parseFrom, rest, parse}
+use Rattle.plan.specs.Xdl.{fullRecord, runningRecord}
 use Rattle.plan.specs.Compile.{compileAnswer}
-use Rattle.plan.specs.Meaning.{planMeans}
-use Rattle.plan.proofs.Worked.{example, example-taken, example-line, example-first, example-below, rows, rows-taken, rows-running-line, rows-running, rows-below-line, rows-below}
+use Rattle.plan.specs.Meaning.{fullSettings, runningSettings, meaningFrom, planMeans}
 use Rattle.shows.specs.Shows.{Bytes, started, lineOf, Given, listOf}
 use Rattle.shows.proofs.Theorem.{installed}
 
@@ -69,14 +73,58 @@ module _ (plan : List ℕ) (n : ℕ) (bytes : all-below plan ≡ true) (taken : 
   line-is : (k : ℕ) → k < 240 → line plan n k ≡ done (planMeans plan k)
   line-is = installed plan (replicate n 0) memory n 524286 1 newBoard given .1
 
-pub example-shown : (line example 22 0 ≡ done example-line) × (line example 22 239 ≡ done example-line)
-example-shown = (
-  line-is example 22 refl example-taken 0 (lit< tt) ∙ ap done example-first,
-  line-is example 22 refl example-taken 239 (lit< tt) ∙ ap done example-below,
-)
+-- "17 00 01 00, 01, seventeen bytes 00, 08 01 01 01 FF"
+abbrev example : List ℕ
+example = 0x17 ∷ 0 ∷ 1 ∷ 0 ∷ 1 ∷ (replicate 17 0 ++ (8 ∷ 1 ∷ 1 ∷ 1 ∷ 255 ∷ []))
 
-pub rows-shown : (line rows 30 14 ≡ done rows-running-line) × (line rows 30 239 ≡ done rows-below-line)
-rows-shown = (
-  line-is rows 30 refl rows-taken 14 (lit< tt) ∙ ap done rows-running,
-  line-is rows 30 refl rows-taken 239 (lit< tt) ∙ ap done rows-below,
-)
+example-taken : compileAnswer example 22 ≡ done 22
+unfolding compileAnswer parse rest parseFrom itemAt fitted fullAt soundFull fullRecord
+example-taken = refl
+
+-- everything off, a field of 8 by 1
+abbrev example-line : Settings
+example-line =
+    record {
+      overlay = record { mode = 0; address = 0; step = 0; hscroll = 0; vscroll = 0; font = 0; counter = 0 };
+      map = record { on = false; address = 0; step = 0; hscroll = 0; vscroll = 0; width = 8; height = 1; counter = 0 };
+      look = record { width = 1; palette = 1; playfield = 0; priority = 255 };
+    }
+
+pub example-first : line example 22 0 ≡ done example-line
+unfolding parse rest parseFrom itemAt fitted fullAt soundFull meaningFrom fullSettings settingsBelow overlayBelow mapBelow
+example-first = line-is example 22 refl example-taken 0 (lit< tt)
+
+pub example-last : line example 22 239 ≡ done example-line
+unfolding parse rest parseFrom itemAt fitted fullAt soundFull meaningFrom fullSettings settingsBelow overlayBelow mapBelow off
+example-last = line-is example 22 refl example-taken 239 (lit< tt)
+
+-- twelve lines of text from 524,272 on, 40 bytes a row, and a map from 1,000 on with fields 5 lines high, 80 bytes a row; then four lines that run on
+abbrev rows : List ℕ
+rows =
+    0x17 ∷ 0 ∷ 1 ∷ 0
+    ∷ 12 ∷ 1 ∷ 240 ∷ 255 ∷ 7 ∷ 40 ∷ 0 ∷ 1 ∷ 2 ∷ 3 ∷ 1 ∷ 232 ∷ 3 ∷ 0 ∷ 80 ∷ 0 ∷ 4 ∷ 5 ∷ 9 ∷ 5 ∷ 2 ∷ 7 ∷ 99
+    ∷ 7 ∷ 0 ∷ 2 ∷ 0
+    ∷ 4 ∷ 6 ∷ 7 ∷ 8 ∷ 0 ∷ 14 ∷ 33
+    ∷ []
+
+rows-taken : compileAnswer rows 30 ≡ done 30
+unfolding compileAnswer parse rest parseFrom itemAt fitted fullAt soundFull runningAt soundRunning fullRecord runningRecord
+rows-taken = refl
+
+-- line 14 runs on: row 1 of text, line 6 of it; row 2 of the map, line 4 of it
+pub rows-running : line rows 30 14 ≡ done (record {
+  overlay = record { mode = 1; address = 24; step = 40; hscroll = 6; vscroll = 7; font = 8; counter = 6 };
+  map = record { on = true; address = 1160; step = 80; hscroll = 4; vscroll = 5; width = 9; height = 5; counter = 4 };
+  look = record { width = 0; palette = 2; playfield = 3; priority = 33 };
+})
+unfolding parse rest parseFrom itemAt fitted fullAt soundFull runningAt soundRunning meaningFrom fullSettings runningSettings settingsBelow overlayBelow mapBelow
+rows-running = line-is rows 30 refl rows-taken 14 (lit< tt)
+
+-- below the plan: off, and the rest held as 16 lines left it
+pub rows-below : line rows 30 239 ≡ done (record {
+  overlay = record { mode = 0; address = 64; step = 40; hscroll = 6; vscroll = 7; font = 8; counter = 0 };
+  map = record { on = false; address = 1240; step = 80; hscroll = 4; vscroll = 5; width = 9; height = 5; counter = 1 };
+  look = record { width = 0; palette = 2; playfield = 3; priority = 33 };
+})
+unfolding parse rest parseFrom itemAt fitted fullAt soundFull runningAt soundRunning meaningFrom fullSettings runningSettings settingsBelow overlayBelow mapBelow off
+rows-below = line-is rows 30 refl rows-taken 239 (lit< tt)

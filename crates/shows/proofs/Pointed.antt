@@ -6,18 +6,16 @@ use Prim.Native.Nat.{ℕ, _+_, _*_, _/_, _%_, _≤_, _<_}
 use native.Mathlib.Nat.{mod-lt}
 use native.Mathlib.Omega.{arith}
 use lib.Dec.{ltb}
-use borrow.Author.Tests.{ltb-true, lt-ltb, eq-eqb}
+use borrow.Author.Tests.{lt-ltb, eq-eqb}
 use Rattle.laws.proofs.Choice.{both}
 use Rattle.laws.specs.Bit.{bit}
-use Rattle.refusal.specs.Sheet.{Told, done}
+use Rattle.refusal.specs.Sheet.{done}
 use Rattle.blitter.specs.State.{soundBlitter}
 use Rattle.board.specs.Ports.{soundPorts, lowSet, middleSet, highSet, videoSet, addressesSet, portsWritten}
-use Rattle.board.specs.Board.{soundBoard, register, blitterWritten, writeBoard}
-use Rattle.board.specs.declared.Ports.{Ports}
+use Rattle.board.specs.Board.{soundBoard, blitterWritten, writeBoard}
 use Rattle.board.specs.declared.Board.{Board}
 use Rattle.board.proofs.Answer.{write-done}
 use Rattle.frame.specs.Frame.{startOf, startAnswer}
-use Rattle.frame.specs.declared.Frame.{Frame}
 use Rattle.shows.specs.Shows.{pointed, started}
 
 -- the same board with another list register, and with another VIDEO_CONTROL

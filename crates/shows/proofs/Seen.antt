@@ -1,18 +1,18 @@
 -- The lines of a frame that is switched on, told without the frame's own line: what is fetched and advanced is a reader. None of the 240 is refused. Assumes nothing.
-use mathlib.Core.Path.{_≡_, refl, sym, ap, _∙_}
+use mathlib.Core.Path.{_≡_, refl, ap, _∙_}
 use mathlib.Core.Bool.{Bool, true, false, cond}
 use mathlib.Core.List.{List}
 use Prim.Native.Nat.{ℕ, zero, suc, _+_, _-_, _<_}
 use native.Mathlib.Omega.{arith}
 use lib.Dec.{ltb}
-use lib.ListN.{length, getD}
-use Rattle.refusal.specs.Sheet.{Told, done}
+use lib.ListN.{length}
+use Rattle.refusal.specs.Sheet.{done}
 use Rattle.settings.specs.Settings.{advanced, off}
 use Rattle.settings.specs.declared.Settings.{Settings}
 use Rattle.vram.specs.Memory.{goodLength}
 use Rattle.record.specs.Record.{recordOf}
 use Rattle.record.specs.declared.Reader.{Reader}
-use Rattle.frame.specs.Frame.{soundFrame, readerOf, withReader, frameAt, fetched, shown, nextFrame, lineAt}
+use Rattle.frame.specs.Frame.{soundFrame, readerOf, withReader, frameAt, fetched, nextFrame, lineAt}
 use Rattle.frame.specs.declared.Frame.{Frame}
 use Rattle.frame.proofs.Cases.{shown-on, next-on}
 use Rattle.frame.proofs.Lines.{next-line-is, line-first, line-more}

@@ -4,7 +4,7 @@ use mathlib.Core.Bool.{true}
 use mathlib.Core.List.{List, [], _∷_}
 use Prim.Native.Nat.{ℕ, zero, suc, _+_, _<_}
 use native.Mathlib.Omega.{arith}
-use lib.ListN.{length, take, drop, getD, set}
+use lib.ListN.{length, take, drop, set}
 use lib.Seq.{take-at}
 use Rattle.refusal.specs.Sheet.{Told, done}
 use Rattle.vram.specs.Memory.{goodLength, place}
@@ -16,7 +16,6 @@ use Rattle.frame.specs.declared.Frame.{Frame}
 use Rattle.frame.proofs.Sound.{sound-start}
 use Rattle.plan.specs.Plan.{parse, itemsOf}
 use Rattle.plan.specs.Xdl.{xdlBytes}
-use Rattle.plan.specs.Compile.{compileOutput}
 use Rattle.plan.specs.Meaning.{planMeans}
 use Rattle.plan.proofs.Compiling.{accepted}
 use Rattle.plan.proofs.Valid.{all-sound, starts-full, xdl-at-most, xdl-bytes}

@@ -27,7 +27,7 @@ use Rattle.plan.proofs.Valid.{AllSound, StartsFull}
 use Rattle.shows.specs.Shows.{Holds}
 use Rattle.shows.proofs.Holding.{holds-front, holds-back}
 use Rattle.shows.proofs.Reading.{read-full, read-running}
-use Rattle.shows.proofs.Seen.{readerAt, fetching, further, seen, same-fetch}
+use Rattle.shows.proofs.Seen.{fetching, further, seen, same-fetch}
 
 -- a field of the latest band has a line
 abbrev Tall : Latest → Type 0
