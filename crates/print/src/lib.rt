@@ -23,6 +23,18 @@ pub fn hex(b: u8) {
     io::write_all(1, &two);
 }
 
+// The 20 low bits of an address, as five digits.
+pub fn address(a: u32) {
+    let five = [
+        digit((a / 65536 % 16) as u8),
+        digit((a / 4096 % 16) as u8),
+        digit((a / 256 % 16) as u8),
+        digit((a / 16 % 16) as u8),
+        digit((a % 16) as u8),
+    ];
+    io::write_all(1, &five);
+}
+
 // A refusal as the desk prints it, in a line.
 pub fn refused(why: Refusal, item: u32) {
     text(b"refused ");
