@@ -37,28 +37,30 @@ fn shown(mem: &mut [u8], list: &[u8], at: u32, address: u32, video: u8, count: u
     }
 }
 
-// In the smallest memory, which is else 0.
-fn small(title: &[u8], list: &[u8], at: u32, address: u32, count: u16) {
+// A whole frame, in the smallest memory, which is else 0.
+fn small(title: &[u8], list: &[u8], at: u32, address: u32) {
     let mut mem = [0u8; 16384];
     print::text(title);
-    shown(&mut mem, list, at, address, 1, count);
+    shown(&mut mem, list, at, address, 1, 240);
 }
 
 // In the largest.
-fn large(title: &[u8], list: &[u8], at: u32, address: u32, count: u16) {
+fn large(title: &[u8], list: &[u8], at: u32, address: u32) {
     let mut mem = [0u8; 524288];
     print::text(title);
-    shown(&mut mem, list, at, address, 1, count);
+    shown(&mut mem, list, at, address, 1, 240);
 }
 
-// A list at 0, and its whole frame.
+// A list at 0.
 fn case(title: &[u8], list: &[u8]) {
-    small(title, list, 0, 0, 240);
+    small(title, list, 0, 0);
 }
 
 // The first lines only; or, with 241, a line too many.
 fn some(title: &[u8], list: &[u8], count: u16) {
-    small(title, list, 0, 0, count);
+    let mut mem = [0u8; 16384];
+    print::text(title);
+    shown(&mut mem, list, 0, 0, 1, count);
 }
 
 // The worked list with another VIDEO_CONTROL.
@@ -95,7 +97,7 @@ fn worked() {
         b"\x42\x00\x00\x10\x00\x40\x01",
         4,
     );
-    small(b"No END, over the top: ", b"\x00\x00", 524280, 524280, 240);
+    small(b"No END, over the top: ", b"\x00\x00", 524280, 524280);
     switched(0);
     switched(14);
     switched(15);
@@ -104,26 +106,19 @@ fn worked() {
 // Lists over the top of memory: addresses wrap at 524,288, cells at L.
 fn wraps() {
     let list = b"\x62\x80\x02\x00\x10\x00\x40\x01";
-    small(b"Over 524,288: ", list, 524286, 524286, 240);
-    small(b"Between the control bytes: ", list, 524287, 524287, 240);
-    small(
-        b"The list position at the wrap: ",
-        list,
-        524280,
-        524280,
-        240,
-    );
-    large(b"Over 524,288: ", list, 524286, 524286, 240);
-    small(b"Over L: ", list, 16380, 16380, 240);
-    large(b"No wrap at 16,384: ", list, 16380, 16380, 240);
-    small(b"The same cell, L higher: ", list, 4096, 20480, 240);
-    large(b"Another cell: ", list, 4096, 20480, 240);
+    small(b"Over 524,288: ", list, 524286, 524286);
+    small(b"Between the control bytes: ", list, 524287, 524287);
+    small(b"The list position at the wrap: ", list, 524280, 524280);
+    large(b"Over 524,288: ", list, 524286, 524286);
+    small(b"Over L: ", list, 16380, 16380);
+    large(b"No wrap at 16,384: ", list, 16380, 16380);
+    small(b"XDL_ADR above L: ", list, 4096, 20480);
+    large(b"XDL_ADR below L: ", list, 4096, 20480);
     small(
         b"A record of 22 bytes over the top, and one behind it: ",
         b"\xEA\x1F\x00\x21\x43\x05\x65\x07\x03\x04\x12\x98\xBA\x01\xDC\x0E\x05\x06\x0F\x03\x92\x5A\x00\x80",
         524276,
         524276,
-        240,
     );
 }
 
