@@ -53,11 +53,14 @@ running-below : (b : Running) (s : Settings) (k : ℕ) → runningSettings b (se
 unfolding runningSettings settingsBelow overlayBelow mapBelow
 running-below b s k = refl
 
+false-true : {A : Type 0} → false ≡ true → A
+false-true e = absurd (let z : _≡_ {A = ℕ} 0 1 = cc in omega arith)
+
 -- an item keeps the field's height, or brings its own
 enter-tall : (it : Item) (l : Latest) → soundItem it ≡ true → (isFull it ≡ true) ⊎ Tall l → Tall (enter it l)
 unfolding fullSettings runningSettings
 enter-tall (full b) l s t = full-fits b s .low
-enter-tall (running b) l s t = ⊎-elim (λ (e : false ≡ true). absurd (let z : _≡_ {A = ℕ} 0 1 = cc in omega arith)) (λ h. h) t
+enter-tall (running b) l s t = ⊎-elim (λ (e : false ≡ true). false-true e) (λ h. h) t
 
 module _ (mem : List ℕ) where
   -- a reader at the begin of a record or past the last, and one that repeats a record's settings
@@ -111,7 +114,7 @@ module _ (mem : List ℕ) where
       ∙ ap (λ (x : Settings). record { settings = x; position = (p + 22) % 524288; repeat = b .lines - 1; ended = last }) (full-first b s)
   fetch-item (running b) more l set p last s r h =
       ⊎-elim
-      (λ (e : false ≡ true). absurd (let z : _≡_ {A = ℕ} 0 1 = cc in omega arith))
+      (λ (e : false ≡ true). false-true e)
       (λ e.
       read-running mem (at-item set p false) b last s h
       ∙ ap (λ (x : Settings). record { settings = x; position = (p + 8) % 524288; repeat = b .lines - 1; ended = last })
