@@ -5,6 +5,7 @@ use board::Board;
 use frame::Frame;
 use frame::FrameStart;
 use frame::LineReport;
+use plan::Compiled;
 use settings::Settings;
 
 fn yes_no(t: bool) {
@@ -206,6 +207,43 @@ fn trap_text(mem: &mut [u8]) {
     show(mem);
 }
 
+// The paper's one-item plan into a lent buffer: what is told, and the buffer's first and last byte.
+fn into(out: &mut [u8]) {
+    let plan = b"\x17\0\x01\0\x01\0\0\0\0\0\0\0\0\0\0\0\0\0\0\0\0\0\x08\x01\x01\x01\xFF";
+    let told = plan::compile(plan, out);
+    print::text(b"a list of 22 bytes into ");
+    print::number(out.len() as u64);
+    print::text(b": ");
+    match told {
+        Compiled::Done(bytes) => {
+            print::number(bytes as u64);
+            print::text(b" bytes\n");
+        }
+        Compiled::Refused(why, item) => print::refused(why, item),
+    }
+    ends(out);
+}
+
+fn ends(out: &[u8]) {
+    let n = out.len();
+    if 0 < n {
+        print::text(b"  first ");
+        print::hex(out[0]);
+        print::text(b", last ");
+        print::hex(out[n - 1]);
+        print::text(b"\n");
+    }
+}
+
+fn rooms() {
+    let mut short = [0xEEu8; 21];
+    into(&mut short);
+    let mut exact = [0xEEu8; 22];
+    into(&mut exact);
+    let mut long = [0xEEu8; 25];
+    into(&mut long);
+}
+
 fn main() {
     let mut mem = [0u8; 16384];
     steps_and_codes();
@@ -217,4 +255,5 @@ fn main() {
     trap_zoom(&mut mem);
     trap_rows(&mut mem);
     trap_text(&mut mem);
+    rooms();
 }
