@@ -207,11 +207,32 @@ fn trap_text(mem: &mut [u8]) {
     show(mem);
 }
 
+// A step in x of FF goes backwards: 3500h, then 34FFh.
+fn backwards(mem: &mut [u8]) {
+    print::text(b"step x byte FF: ");
+    run(
+        mem,
+        b"\0\0\0\0\0\0\x00\x35\0\0\0\xFF\x01\0\0\0\xBB\0\0\0\0",
+    );
+    cells(mem, 0x34FE);
+}
+
 // The paper's one-item plan into a lent buffer: what is told, and the buffer's first and last byte.
 fn into(out: &mut [u8]) {
     let plan = b"\x17\0\x01\0\x01\0\0\0\0\0\0\0\0\0\0\0\0\0\0\0\0\0\x08\x01\x01\x01\xFF";
-    let told = plan::compile(plan, out);
     print::text(b"a list of 22 bytes into ");
+    compiled(plan, out);
+}
+
+// The same with a stray byte behind it: an item's refusal comes before the room's.
+fn stray(out: &mut [u8]) {
+    let plan = b"\x17\0\x01\0\x01\0\0\0\0\0\0\0\0\0\0\0\0\0\0\0\0\0\x08\x01\x01\x01\xFF\0";
+    print::text(b"the same and a stray byte into ");
+    compiled(plan, out);
+}
+
+fn compiled(plan: &[u8], out: &mut [u8]) {
+    let told = plan::compile(plan, out);
     print::number(out.len() as u64);
     print::text(b": ");
     match told {
@@ -242,6 +263,8 @@ fn rooms() {
     into(&mut exact);
     let mut long = [0xEEu8; 25];
     into(&mut long);
+    let mut less = [0xEEu8; 21];
+    stray(&mut less);
 }
 
 fn main() {
@@ -256,4 +279,5 @@ fn main() {
     trap_rows(&mut mem);
     trap_text(&mut mem);
     rooms();
+    backwards(&mut mem);
 }

@@ -65,6 +65,13 @@ fn lengths(mem: &mut [u8]) {
     into_first(mem, 524287);
 }
 
+// The order of the refusals: all three hold of a short memory, and 1 is told.
+fn order(mem: &mut [u8], list: &[u8]) {
+    if 100 <= mem.len() {
+        told(&mut mem[0..100], list, 600000);
+    }
+}
+
 fn main() {
     let list = [7u8; 6000];
     let mut small = [0u8; 16384];
@@ -74,4 +81,5 @@ fn main() {
     over_the_top(&mut large);
     edges(&mut large, &list);
     lengths(&mut large);
+    order(&mut large, &list);
 }

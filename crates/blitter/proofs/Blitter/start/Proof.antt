@@ -9,7 +9,7 @@ none-requires c κs = search needs
 
 returns : tie.Need-returns
 unfolding started
-returns c = cc
+returns c = simp (c .none .ensures)
 
 pub start-spec : {M : Type 1} → statement M
 start-spec = tie.close (tie.spec none-requires returns)

@@ -9,7 +9,7 @@ none-requires c κs = search needs
 
 returns : tie.Need-returns
 unfolding stopped
-returns c = cc
+returns c = simp (c .none .ensures)
 
 pub stop-spec : {M : Type 1} → statement M
 stop-spec = tie.close (tie.spec none-requires returns)
