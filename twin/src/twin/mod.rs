@@ -1,0 +1,19 @@
+//! The second desk board: blitter, registers, frame and plans of FX core 1.24.
+//!
+//! The types hold sound states only. Unsound ones are refused where words become a state.
+
+mod blitter;
+mod board;
+mod frame;
+mod plan;
+mod refusal;
+mod video;
+mod words;
+
+pub use blitter::{Block, Job, Report, BLOCK_BYTES};
+pub use board::{Board, Phase, MAX_BUDGET};
+pub use frame::{Frame, Mode, Settings, LINES};
+pub use plan::{compile, install, meaning, xdl, Item, MAX_INSTALL, MAX_XDL};
+pub use refusal::{Refusal, Refused};
+pub use video::{Video, ADDRESSES, ADDRESS_MASK};
+pub use words::Twin;

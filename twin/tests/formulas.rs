@@ -1,0 +1,216 @@
+//! The twin against the formulas of the rules, written down once more in the plainest way.
+//!
+//! The twin goes over whole rows and keeps running addresses. Here each tick is worked out on its own.
+#![allow(clippy::manual_is_multiple_of)]
+
+mod common;
+
+use common::*;
+use twin::card::Card;
+use twin::random::Random;
+use twin::twin::{compile, meaning, Board, Frame, Twin};
+
+/// One tick on the words of a sound board; its accesses.
+fn plain_tick(board: &mut [u32], mem: &mut [u8]) -> u32 {
+    let length = mem.len() as i64;
+    let cell = |address: i64| (address.rem_euclid(524_288) % length) as usize;
+    match board[at::FLAGS] {
+        0 => return 0,
+        1 => {
+            for number in 0..21 {
+                let from = cell(i64::from(board[at::LIST]) + number);
+                board[at::BLOCK + number as usize] = mem[from].into();
+            }
+            board[at::LIST] = (board[at::LIST] + 21) % 524_288;
+            board[at::FLAGS] = 2;
+            return 21;
+        }
+        _ => {}
+    }
+    let block: Vec<i64> = board[at::BLOCK..at::ROW]
+        .iter()
+        .map(|&word| i64::from(word))
+        .collect();
+    let place = |from: usize| block[from] + 256 * block[from + 1] + 65_536 * (block[from + 2] % 8);
+    let step_y = |from: usize| match block[from] + 256 * (block[from + 1] % 32) {
+        up @ 0..=4_095 => up,
+        down => down - 8_192,
+    };
+    let step_x = |from: usize| match block[from] {
+        right @ 0..=127 => right,
+        left => left - 256,
+    };
+    let width = block[12] + 256 * (block[13] % 2) + 1;
+    let height = block[14] + 1;
+    let zoom_x = block[18] % 8 + 1;
+    let zoom_y = block[18] / 16 % 8 + 1;
+    let pattern = if block[19] >= 128 {
+        block[19] % 64 + 1
+    } else {
+        width
+    };
+    let (and, xor, mask) = (block[15] as u8, block[16] as u8, block[17] as u8);
+    let mode = block[20] % 8;
+    let next = block[20] / 8 % 2 == 1;
+    let (row, column) = (i64::from(board[at::ROW]), i64::from(board[at::COLUMN]));
+
+    let source = cell(place(0) + row / zoom_y * step_y(3) + column / zoom_x % pattern * step_x(5));
+    let dest = cell(place(6) + row * step_y(9) + column * step_x(11));
+    let mut accesses = 0;
+    if mode != 7 {
+        let mut read = 0;
+        if and != 0 {
+            read = mem[source];
+            accesses += 1;
+        }
+        let s = read & and ^ xor;
+        let d = mem[dest];
+        let in_mask = |bit: u8| mask & 1 << bit != 0;
+        if (1..=5).contains(&mode) && s != 0 && d != 0 && in_mask(d / 32) {
+            board[at::CODE] = d.into();
+        }
+        if mode == 6 {
+            let code = board[at::CODE];
+            if s % 16 != 0 && d % 16 != 0 && in_mask(d % 16 / 2) {
+                board[at::CODE] = code / 16 * 16 + u32::from(d % 16);
+            }
+            let code = board[at::CODE];
+            if s / 16 != 0 && d / 16 != 0 && in_mask(d / 16 / 2) {
+                board[at::CODE] = code % 16 + u32::from(d / 16 * 16);
+            }
+        }
+        let (written, cost) = match mode {
+            0 => (Some(s), 1),
+            4 => (Some(d & s), 2),
+            5 => (Some(d ^ s), 2),
+            _ if s == 0 => (None, 0),
+            1 => (Some(s), if mask != 0 { 2 } else { 1 }),
+            2 => (Some((u16::from(d) + u16::from(s)) as u8), 2),
+            3 => (Some(d | s), 2),
+            _ => {
+                let low = if s % 16 != 0 { s % 16 } else { d % 16 };
+                let high = if s / 16 != 0 { s / 16 } else { d / 16 };
+                (Some(high * 16 + low), 2)
+            }
+        };
+        accesses += cost;
+        if let Some(value) = written {
+            mem[dest] = value;
+        }
+    }
+    board[at::COLUMN] += 1;
+    if i64::from(board[at::COLUMN]) == width * zoom_x {
+        board[at::COLUMN] = 0;
+        board[at::ROW] += 1;
+        if i64::from(board[at::ROW]) == height * zoom_y {
+            board[at::BLOCK..].fill(0);
+            board[at::FLAGS] = u32::from(next);
+            if !next && board[at::IRQE] == 1 {
+                board[at::IRQF] = 1;
+            }
+        }
+    }
+    accesses
+}
+
+#[test]
+fn runs_are_the_ticks_of_the_formulas() {
+    let mut total = 0;
+    for seed in 0..4_000 {
+        let mut r = Random::new(seed);
+        let length = make::length(&mut r);
+        let mut mem = make::memory(&mut r, length);
+        let mut board = if r.chance(1, 3) {
+            make::board(&mut r)
+        } else {
+            let list = make::list(&mut r, &mut mem);
+            let mut rig = Rig::<Twin>::new();
+            rig.write(0x54, r.byte());
+            rig.start_list(list);
+            rig.board
+        };
+        let mut plain_mem = mem.clone();
+        let mut plain_board = board;
+        for _ in 0..r.between(1, 8) {
+            let budget = r.pick(&[0, 1, 2, 7, 30, 100, 500]);
+            let mut ticks = 0;
+            let mut accesses = 0;
+            while ticks < budget && plain_board[at::FLAGS] != 0 {
+                accesses += plain_tick(&mut plain_board, &mut plain_mem);
+                ticks += 1;
+            }
+            let mut report = [0; 2];
+            assert_eq!(Twin::run(&mut board, &mut mem, budget, &mut report), 0);
+            assert_eq!(report, [ticks, accesses], "seed {seed}");
+            assert_eq!(board, plain_board, "seed {seed}");
+            assert!(mem == plain_mem, "seed {seed}");
+            total += ticks;
+        }
+    }
+    println!("{total} ticks as the formulas say");
+    assert!(total > 500_000);
+}
+
+#[test]
+fn a_split_run_is_the_whole_run() {
+    for seed in 0..500 {
+        let mut r = Random::new(seed);
+        let mut whole = Rig::<Twin>::new();
+        whole.mem = make::memory(&mut r, 16_384);
+        let list = make::list(&mut r, &mut whole.mem);
+        whole.start_list(list);
+        let mut split = Rig::<Twin>::new();
+        split.board = whole.board;
+        split.mem = whole.mem.clone();
+
+        let budget = r.between(1, 3_000);
+        let done = whole.run(budget);
+        let mut left = budget;
+        let mut sum = (0, 0);
+        while left > 0 {
+            let part = r.between(1, left.min(100));
+            let (ticks, accesses) = if part == 1 {
+                split.tick()
+            } else {
+                split.run(part)
+            };
+            sum = (sum.0 + ticks, sum.1 + accesses);
+            left -= part;
+        }
+        assert_eq!(sum, done, "seed {seed}");
+        assert_eq!(split.board, whole.board, "seed {seed}");
+        assert!(split.mem == whole.mem, "seed {seed}");
+    }
+}
+
+#[test]
+fn an_xdl_shows_what_its_plan_means() {
+    for seed in 0..3_000 {
+        let mut r = Random::new(seed);
+        let plan = make::plan_items(&mut r).concat();
+        let mut xdl = [0; 5_280];
+        let length = compile(&plan, &mut xdl).expect("the plan is good");
+        let mut rig = Rig::<Twin>::new();
+        rig.mem = make::memory(&mut r, 16_384);
+        let address = make::address(&mut r);
+        assert_eq!(Twin::install(&mut rig.mem, &xdl[..length], address), 0);
+        rig.board[at::XDL_ADR] = address;
+        rig.board[at::VIDEO_CONTROL] = 1;
+        rig.start();
+        let meant = meaning(&plan).expect("the plan is good");
+        for (number, (shown, meant)) in rig.lines(240).iter().zip(&meant).enumerate() {
+            assert_eq!(*shown, meant.to_words(), "seed {seed}, line {number}");
+        }
+    }
+}
+
+#[test]
+fn sound_words_are_kept() {
+    for seed in 0..5_000 {
+        let mut r = Random::new(seed);
+        let board = make::board(&mut r);
+        assert_eq!(Board::from_words(&board).unwrap().to_words(), board);
+        let frame = make::frame(&mut r);
+        assert_eq!(Frame::from_words(&frame).unwrap().to_words(), frame);
+    }
+}

@@ -1,0 +1,1413 @@
+//! The worked cases of the rules, and a small case for each point that is easy to get wrong.
+//!
+//! Every case runs against the twin and, with the feature `desk`, against the archive as well.
+
+mod common;
+
+use common::*;
+use twin::card::{Card, BOARD_WORDS, FRAME_WORDS, SETTINGS_WORDS, SHORT};
+
+macro_rules! worked {
+    ($(fn $name:ident<$card:ident>() $body:block)*) => {
+        mod cases {
+            use super::*;
+            $(pub fn $name<$card: Card>() $body)*
+        }
+        mod twin_has {
+            $(#[test] fn $name() { super::cases::$name::<twin::twin::Twin>() })*
+        }
+        #[cfg(feature = "desk")]
+        mod desk_has {
+            $(#[test] fn $name() { super::cases::$name::<twin::desk::Desk>() })*
+        }
+    };
+}
+
+/// One byte with the constant source `s` over `d`: the cell, the code and the accesses of the byte tick.
+fn one<C: Card>(mode: u8, s: u8, d: u8, mask: u8, code: u8) -> (u8, u32, u32) {
+    let mut rig = Rig::<C>::with_blocks(&[Bcb {
+        dest: 0x2000,
+        and: 0,
+        xor: s,
+        collision: mask,
+        control: mode,
+        ..Bcb::default()
+    }]);
+    rig.mem[0x2000] = d;
+    rig.board[at::CODE] = code.into();
+    let (ticks, accesses) = rig.run_all();
+    assert_eq!(ticks, 2);
+    (rig.mem[0x2000], rig.board[at::CODE], accesses - 21)
+}
+
+/// Four bytes of 5 from 2000h to 3000h, or as a fill.
+fn four(fill: bool) -> Bcb {
+    Bcb {
+        source: 0x2000,
+        dest: 0x3000,
+        width: 4,
+        and: if fill { 0 } else { 0xFF },
+        xor: if fill { 5 } else { 0 },
+        ..Bcb::default()
+    }
+}
+
+/// The cell that the second row goes to, the first going to 0.
+fn second_row<C: Card>(step: [u8; 2]) -> usize {
+    let block = Bcb {
+        dest_y: step,
+        height: 2,
+        and: 0,
+        xor: 1,
+        ..Bcb::default()
+    };
+    let mut rig = Rig::<C>::with_list(100, &[block]);
+    assert_eq!(rig.run_all(), (3, 23));
+    rig.mem[100..121].fill(0);
+    assert_eq!(rig.mem[0], 1);
+    let found = rig.mem[1..].iter().position(|&cell| cell == 1);
+    1 + found.expect("the second row was written")
+}
+
+fn times(count: usize, item: Vec<u8>) -> Vec<u8> {
+    item.repeat(count)
+}
+
+fn joined(items: &[Vec<u8>]) -> Vec<u8> {
+    items.concat()
+}
+
+fn lines_of<C: Card>(plan: &[u8]) -> Vec<[u32; SETTINGS_WORDS]> {
+    let xdl = compile::<C>(plan).expect("the plan is good");
+    let mut rig = Rig::<C>::new();
+    assert_eq!(C::install(&mut rig.mem, &xdl, 0x1234), 0);
+    rig.write(0x41, 0x34);
+    rig.write(0x42, 0x12);
+    rig.write(0x40, 1);
+    rig.start();
+    rig.lines(240)
+}
+
+worked! {
+    // The worked cases.
+
+    fn step_y_has_13_bits<C>() {
+        assert_eq!(second_row::<C>([0xFF, 0x1F]), 16_383);
+        assert_eq!(second_row::<C>([0x00, 0x10]), 16_384 - 4_096);
+        assert_eq!(second_row::<C>([0xFF, 0x0F]), 4_095);
+        assert_eq!(second_row::<C>([0xFF, 0x3F]), 16_383);
+    }
+
+    fn collisions_go_by_ranges_of_32<C>() {
+        assert_eq!(one::<C>(1, 1, 31, 2, 0), (1, 0, 2));
+        assert_eq!(one::<C>(1, 1, 32, 2, 0), (1, 32, 2));
+        assert_eq!(one::<C>(1, 1, 63, 2, 0), (1, 63, 2));
+        assert_eq!(one::<C>(1, 1, 64, 2, 0), (1, 0, 2));
+        assert_eq!(one::<C>(1, 1, 0, 1, 0), (1, 0, 2));
+        assert_eq!(one::<C>(1, 1, 1, 1, 0), (1, 1, 2));
+    }
+
+    fn every_destination_has_its_mask_bit<C>() {
+        for d in 0..=255 {
+            for bit in 0..8 {
+                let hit = d != 0 && d / 32 == bit;
+                let code = if hit { d.into() } else { 7 };
+                assert_eq!(one::<C>(1, 1, d, 1 << bit, 7).1, code);
+            }
+        }
+    }
+
+    fn mode_2_adds_modulo_256<C>() {
+        assert_eq!(one::<C>(2, 100, 200, 0, 0), (44, 0, 2));
+    }
+
+    fn mode_6_goes_by_nibbles<C>() {
+        assert_eq!(one::<C>(6, 0x50, 0x9A, 0x10, 0), (0x5A, 0x90, 2));
+    }
+
+    fn pattern_of_4_over_10<C>() {
+        let mut rig = Rig::<C>::with_blocks(&[Bcb {
+            source: 0x2000,
+            dest: 0x3000,
+            width: 10,
+            pattern: 0x83,
+            ..Bcb::default()
+        }]);
+        rig.put(0x2000, &[10, 11, 12, 13, 14, 15, 16, 17, 18, 19]);
+        assert_eq!(rig.run_all(), (11, 41));
+        assert_eq!(rig.cells(0x3000, 11), [10, 11, 12, 13, 10, 11, 12, 13, 10, 11, 0]);
+    }
+
+    fn copy_and_fill_of_4<C>() {
+        let mut rig = Rig::<C>::with_blocks(&[four(false)]);
+        rig.put(0x2000, &[1, 2, 3, 4, 5]);
+        assert_eq!(rig.run_all(), (5, 29));
+        assert_eq!(rig.cells(0x3000, 5), [1, 2, 3, 4, 0]);
+
+        let mut rig = Rig::<C>::with_blocks(&[four(true)]);
+        assert_eq!(rig.run_all(), (5, 25));
+        assert_eq!(rig.cells(0x3000, 5), [5, 5, 5, 5, 0]);
+    }
+
+    fn three_lines_then_off<C>() {
+        let xdl = [0x62, 0x80, 0x02, 0x00, 0x10, 0x00, 0x40, 0x01];
+        for address in [0, 524_286] {
+            let mut rig = Rig::<C>::with_xdl_at(address, &xdl);
+            let lines = rig.some(240, &[at::MODE, at::OVADR]);
+            assert_eq!(lines[..3], [[SR, 0x1000], [SR, 0x1140], [SR, 0x1280]]);
+            assert!(lines[3..].iter().all(|line| line == &[OFF, 0x13C0]));
+            assert_eq!(rig.frame[at::POSITION], (address + 8) % 524_288);
+        }
+    }
+
+    fn overlay_address_wraps<C>() {
+        let mut rig = Rig::<C>::with_xdl(&[0x62, 0x80, 1, 0xFF, 0xFF, 0x07, 1, 0]);
+        assert_eq!(rig.column(2, at::OVADR), [0x7FFFF, 0]);
+    }
+
+    fn text_and_graphics_together_are_off<C>() {
+        let mut rig = Rig::<C>::with_xdl(&[0x02, 0x00, 0x03, 0x00]);
+        assert_eq!(rig.column(2, at::MODE), [SR, OFF]);
+    }
+
+    fn good_and_bad_lengths<C>() {
+        for shift in 14..=19 {
+            let mut rig = Rig::<C>::new();
+            rig.mem = vec![0; 1 << shift];
+            assert_eq!(rig.answer_run(1), 0);
+        }
+        for length in [0, 1, 2, 8_192, 16_383, 16_385, 24_576, 524_287, 524_289, 540_672, 1_048_576] {
+            let mut rig = Rig::<C>::new();
+            rig.mem = vec![0; length];
+            assert_eq!(rig.answer_run(1), 1);
+            assert_eq!(rig.answer_tick(), 1);
+            assert_eq!(rig.answer_install(0, 0), 1);
+            rig.start();
+            assert_eq!(rig.answer_line(), 1);
+        }
+    }
+
+    fn budget_ends<C>() {
+        let mut rig = Rig::<C>::new();
+        assert_eq!(rig.run(1_000_000), (0, 0));
+        assert_eq!(rig.answer_run(1_000_001), 2);
+        assert_eq!(rig.answer_run(u32::MAX), 2);
+        rig.write(0x53, 1);
+        assert_eq!(rig.answer_run(1_000_001), 2);
+    }
+
+    fn one_band_as_an_xdl<C>() {
+        let mut plan = vec![0x17, 0, 1, 0, 1];
+        plan.extend([0; 17]);
+        plan.extend([8, 1, 1, 1, 0xFF]);
+        let mut xdl = vec![0xF4, 0x8F];
+        xdl.extend([0; 16]);
+        xdl.extend([7, 0, 0x11, 0xFF]);
+        assert_eq!(compile::<C>(&plan), Ok(xdl));
+    }
+
+    // Refusals and calls.
+
+    fn a_new_board_is_all_zero<C>() {
+        let mut board = [5; BOARD_WORDS + 2];
+        assert_eq!(C::new_board(&mut board), 0);
+        assert_eq!(board[..BOARD_WORDS], [0; BOARD_WORDS]);
+        assert_eq!(board[BOARD_WORDS..], [5, 5]);
+    }
+
+    fn buffers_that_are_too_short<C>() {
+        let mut board = [0; BOARD_WORDS];
+        let mut frame = [0; FRAME_WORDS];
+        let mut mem = vec![0; 5];
+        let short = BOARD_WORDS - 1;
+        board[at::FLAGS] = 9;
+        assert_eq!(C::new_board(&mut board[..short]), SHORT);
+        assert_eq!(C::write(&mut board[..short], 0, 0), SHORT);
+        assert_eq!(C::read(&board[..short], 0, &mut [0]), SHORT);
+        assert_eq!(C::read(&board, 0, &mut []), SHORT);
+        assert_eq!(C::reset(&mut board[..short]), SHORT);
+        assert_eq!(C::tick(&mut board[..short], &mut mem, &mut [0; 2]), SHORT);
+        assert_eq!(C::tick(&mut board, &mut mem, &mut [0; 1]), SHORT);
+        assert_eq!(C::run(&mut board[..short], &mut mem, u32::MAX, &mut [0; 2]), SHORT);
+        assert_eq!(C::run(&mut board, &mut mem, u32::MAX, &mut [0; 1]), SHORT);
+        assert_eq!(C::start(&board[..short], &mut frame), SHORT);
+        assert_eq!(C::start(&board, &mut frame[..FRAME_WORDS - 1]), SHORT);
+        assert_eq!(C::next_line(&mut frame[..FRAME_WORDS - 1], &mem, &mut [0; 19]), SHORT);
+        assert_eq!(C::next_line(&mut frame, &mem, &mut [0; 18]), SHORT);
+        assert_eq!(C::compile(&[], &mut [], &mut []), SHORT);
+        let mut unsound = [0; BOARD_WORDS];
+        unsound[at::FLAGS] = 9;
+        assert_eq!((board, frame), (unsound, [0; FRAME_WORDS]));
+    }
+
+    fn words_past_the_last_stay<C>() {
+        let mut board = [0; BOARD_WORDS + 1];
+        board[BOARD_WORDS] = 99;
+        let mut frame = [99; FRAME_WORDS + 1];
+        let mut settings = [99; SETTINGS_WORDS + 1];
+        let mut report = [99; 3];
+        let mut mem = vec![0; 16_384];
+        assert_eq!(C::write(&mut board, 0x53, 1), 0);
+        assert_eq!(C::run(&mut board, &mut mem, 1, &mut report), 0);
+        assert_eq!(report, [1, 21, 99]);
+        assert_eq!(C::read(&board, 0x53, &mut report), 0);
+        assert_eq!(report, [2, 21, 99]);
+        assert_eq!(C::start(&board, &mut frame), 0);
+        assert_eq!(C::next_line(&mut frame, &mem, &mut settings), 0);
+        assert_eq!((board[35], frame[24], settings[19]), (99, 99, 99));
+    }
+
+    fn refusals_of_a_run_in_order<C>() {
+        let mut rig = Rig::<C>::new();
+        rig.board[at::FLAGS] = 3;
+        rig.mem.pop();
+        assert_eq!(rig.answer_run(u32::MAX), 1);
+        assert_eq!(rig.answer_tick(), 1);
+        rig.mem.push(0);
+        assert_eq!(rig.answer_run(u32::MAX), 15);
+        assert_eq!(rig.answer_tick(), 15);
+        rig.board[at::FLAGS] = 0;
+        assert_eq!(rig.answer_run(u32::MAX), 2);
+        assert_eq!(rig.tick(), (0, 0));
+    }
+
+    fn refusals_of_registers_in_order<C>() {
+        let mut rig = Rig::<C>::new();
+        for offset in [0, 0x3F, 0x60, 0x153, u32::MAX] {
+            assert_eq!(rig.answer_write(offset, 1), 3);
+            assert_eq!(rig.answer_read(offset), 3);
+        }
+        rig.board[at::FLAGS] = 3;
+        assert_eq!(rig.answer_write(0x60, 1), 15);
+        assert_eq!(rig.answer_read(0x60), 15);
+    }
+
+    fn refusals_of_install_in_order<C>() {
+        let mut rig = Rig::<C>::new();
+        rig.mem.pop();
+        assert_eq!(rig.answer_install(6_000, 600_000), 1);
+        rig.mem.push(0);
+        assert_eq!(rig.answer_install(6_000, 600_000), 14);
+        assert_eq!(rig.answer_install(6_000, 0), 13);
+        assert_eq!(rig.answer_install(5_281, 524_287), 13);
+        assert_eq!(rig.answer_install(5_280, 524_288), 14);
+        assert_eq!(rig.answer_install(5_280, 524_287), 0);
+    }
+
+    fn an_idle_board_does_not_excuse_the_budget<C>() {
+        let mut rig = Rig::<C>::new();
+        let board = rig.board;
+        assert_eq!(rig.answer_run(1_000_001), 2);
+        assert_eq!(rig.run(1_000_000), (0, 0));
+        assert_eq!(rig.board, board);
+    }
+
+    fn an_unsound_state_is_not_mended<C>() {
+        let mut rig = Rig::<C>::new();
+        rig.board[at::ROW] = 1;
+        assert_eq!(rig.answer_reset(), 15);
+        assert_eq!(rig.board[at::ROW], 1);
+        assert_eq!(rig.answer_write(0x53, 1), 15);
+        assert_eq!(rig.answer_write(0x53, 0), 15);
+        assert_eq!(rig.answer_start(), 15);
+    }
+
+    fn the_240th_line_is_the_last<C>() {
+        for on in [0, 1] {
+            for ended in [0, 1] {
+                let mut rig = Rig::<C>::with_xdl(&[]);
+                rig.frame[at::ON] = on;
+                rig.frame[at::ENDED] = ended;
+                rig.frame[at::LINE] = 239;
+                assert_eq!(rig.answer_line(), 0);
+                assert_eq!(rig.frame[at::LINE], 240);
+                assert_eq!(rig.answer_line(), 4);
+                rig.frame[at::LINE] = 241;
+                assert_eq!(rig.answer_line(), 15);
+                rig.frame[at::LINE] = 240;
+                rig.mem.truncate(100);
+                assert_eq!(rig.answer_line(), 1);
+            }
+        }
+    }
+
+    fn the_240th_line_advances_too<C>() {
+        let mut rig = Rig::<C>::with_xdl(&[]);
+        rig.frame[at::LINE] = 239;
+        rig.frame[at::REPEAT] = 5;
+        rig.frame[at::MODE] = SR;
+        rig.frame[at::OVADR] = 7;
+        rig.frame[at::OVSTEP] = 3;
+        assert_eq!(rig.line()[at::OVADR], 7);
+        assert_eq!(
+            [rig.frame[at::LINE], rig.frame[at::REPEAT], rig.frame[at::OVADR]],
+            [240, 4, 10]
+        );
+    }
+
+    fn items_are_numbered_from_0<C>() {
+        assert_eq!(compile::<C>(&times(241, full())), Err((11, 240)));
+        let plan = joined(&[full(), running()]);
+        assert_eq!(compile_into::<C>(&plan, &mut [0xEE; 29]), Err((13, 0)));
+        assert_eq!(compile_into::<C>(&plan, &mut [0xEE; 30]), Ok(30));
+    }
+
+    fn order_within_an_item<C>() {
+        let cases: &[(&[u8], u32)] = &[
+            (&[], 6),
+            (&[0x17, 0, 9], 5),
+            (&[0x63, 0, 3, 0], 7),
+            (&[0x18, 0, 1, 0], 8),
+            (&[0x17, 0, 1, 0], 5),
+            (&[0x17, 0, 1, 1], 7),
+            (&[7, 0, 2, 0, 1], 5),
+            (&[8, 0, 2, 0, 1, 0, 0, 0, 1, 1, 255, 0], 8),
+            (&[7, 0, 2, 0, 1, 9, 0, 0, 1, 1, 255], 10),
+            (&[7, 0, 2, 0, 1, 0, 0, 0, 1, 1, 255], 10),
+            (&[0x17, 1, 1, 0], 8),
+            (&[0, 0, 0, 0], 7),
+        ];
+        for (plan, number) in cases {
+            assert_eq!(compile::<C>(plan), Err((*number, 0)), "{plan:02X?}");
+        }
+        let lines = |lines| Full { lines, ..Full::default() }.bytes();
+        let more = |lines| Running { lines, ..Running::default() }.bytes();
+        assert_eq!(compile::<C>(&lines(241)), Err((9, 0)));
+        assert_eq!(compile::<C>(&lines(0)), Err((9, 0)));
+        assert_eq!(compile::<C>(&joined(&[lines(240), more(1)])), Err((11, 1)));
+        assert_eq!(compile::<C>(&joined(&[lines(240), more(0)])), Err((9, 1)));
+        assert_eq!(compile::<C>(&joined(&[lines(240), more(1), vec![0]])), Err((11, 1)));
+        assert_eq!(compile::<C>(&joined(&[lines(240), vec![9]])), Err((5, 1)));
+        assert_eq!(compile::<C>(&joined(&[full(), vec![0]])), Err((5, 1)));
+    }
+
+    fn only_item_0_is_the_first<C>() {
+        let xdl = compile::<C>(&joined(&[full(), running(), running()]));
+        assert_eq!(xdl.map(|xdl| xdl.len()), Ok(38));
+    }
+
+    fn field_ranges_of_a_full_band<C>() {
+        let f = Full::default();
+        let good = [
+            Full { lines: 240, ..f },
+            Full { mode: 4, ..f },
+            Full { ovadr: 524_287, ..f },
+            Full { ovstep: 4_095, ..f },
+            Full { hscroll: 7, ..f },
+            Full { vscroll: 7, ..f },
+            Full { font: 255, ..f },
+            Full { map: 1, ..f },
+            Full { mapadr: 524_287, ..f },
+            Full { mapstep: 4_095, ..f },
+            Full { map_hscroll: 31, ..f },
+            Full { map_vscroll: 31, ..f },
+            Full { field_width: 32, ..f },
+            Full { field_height: 1, ..f },
+            Full { field_height: 32, ..f },
+            Full { width: 0, ..f },
+            Full { width: 2, ..f },
+            Full { palettes: 15, ..f },
+            Full { priority: 0, ..f },
+        ];
+        for band in good {
+            assert_eq!(compile::<C>(&band.bytes()).map(|xdl| xdl.len()), Ok(22));
+        }
+        let bad = [
+            Full { lines: 0, ..f },
+            Full { lines: 241, ..f },
+            Full { lines: 255, ..f },
+            Full { mode: 5, ..f },
+            Full { ovadr: 524_288, ..f },
+            Full { ovadr: 0xFFFFFF, ..f },
+            Full { ovstep: 4_096, ..f },
+            Full { hscroll: 8, ..f },
+            Full { vscroll: 8, ..f },
+            Full { map: 2, ..f },
+            Full { mapadr: 524_288, ..f },
+            Full { mapstep: 4_096, ..f },
+            Full { map_hscroll: 32, ..f },
+            Full { map_vscroll: 32, ..f },
+            Full { field_width: 7, ..f },
+            Full { field_width: 33, ..f },
+            Full { field_height: 0, ..f },
+            Full { field_height: 33, ..f },
+            Full { width: 3, ..f },
+            Full { palettes: 16, ..f },
+        ];
+        for band in bad {
+            assert_eq!(compile::<C>(&band.bytes()), Err((9, 0)));
+        }
+    }
+
+    fn field_ranges_of_running_on<C>() {
+        let r = Running::default();
+        let good = [
+            Running { lines: 239, ..r },
+            Running { hscroll: 7, ..r },
+            Running { vscroll: 7, ..r },
+            Running { font: 255, ..r },
+            Running { width: 0, ..r },
+            Running { width: 2, ..r },
+            Running { palettes: 15, ..r },
+            Running { priority: 0, ..r },
+        ];
+        for item in good {
+            let plan = joined(&[full(), item.bytes()]);
+            assert_eq!(compile::<C>(&plan).map(|xdl| xdl.len()), Ok(30));
+        }
+        let bad = [
+            Running { lines: 0, ..r },
+            Running { lines: 241, ..r },
+            Running { hscroll: 8, ..r },
+            Running { vscroll: 8, ..r },
+            Running { width: 3, ..r },
+            Running { palettes: 16, ..r },
+        ];
+        for item in bad {
+            assert_eq!(compile::<C>(&joined(&[full(), item.bytes()])), Err((9, 1)));
+        }
+        let late = Running { lines: 240, ..r };
+        assert_eq!(compile::<C>(&joined(&[full(), late.bytes()])), Err((11, 1)));
+    }
+
+    fn the_longest_xdl_has_5280_bytes<C>() {
+        let plan = times(240, full());
+        assert_eq!(compile::<C>(&plan).map(|xdl| xdl.len()), Ok(5_280));
+        assert_eq!(compile_into::<C>(&plan, &mut [0xEE; 5_279]), Err((13, 0)));
+    }
+
+    fn nothing_is_written_before_the_last_item_is_read<C>() {
+        let bad = Running { hscroll: 8, ..Running::default() }.bytes();
+        assert_eq!(compile_into::<C>(&joined(&[full(), bad]), &mut [0xEE; 22]), Err((9, 1)));
+        let cut = joined(&[full(), running(), vec![0]]);
+        assert_eq!(compile_into::<C>(&cut, &mut [0xEE; 29]), Err((5, 2)));
+        assert_eq!(compile_into::<C>(&full(), &mut []), Err((13, 0)));
+    }
+
+    fn the_tail_of_the_output_stays<C>() {
+        assert_eq!(compile_into::<C>(&full(), &mut [0xEE; 22]), Ok(22));
+        let mut out = [0xEE; 25];
+        assert_eq!(compile_into::<C>(&full(), &mut out), Ok(22));
+        assert_eq!(out[22..], [0xEE; 3]);
+    }
+
+    fn installing_nothing<C>() {
+        let mut rig = Rig::<C>::new();
+        assert_eq!(rig.answer_install(0, 524_287), 0);
+        assert_eq!(rig.answer_install(0, 524_288), 14);
+        assert!(rig.mem.iter().all(|&cell| cell == 0));
+    }
+
+    fn installing_wraps<C>() {
+        let mut rig = Rig::<C>::new();
+        assert_eq!(C::install(&mut rig.mem, &[1, 2, 3], 524_287), 0);
+        assert_eq!([rig.mem[16_383], rig.mem[0], rig.mem[1], rig.mem[2]], [1, 2, 3, 0]);
+        assert_eq!(rig.mem.iter().filter(|&&cell| cell != 0).count(), 3);
+    }
+
+    fn frame_start_takes_one_bit<C>() {
+        let mut rig = Rig::<C>::new();
+        rig.write(0x40, 0x0E);
+        rig.start();
+        assert_eq!(rig.frame[at::ON], 0);
+        rig.write(0x40, 0x01);
+        rig.write(0x43, 0x05);
+        rig.start();
+        let mut expected = [0; FRAME_WORDS];
+        expected[at::FIELD_WIDTH] = 8;
+        expected[at::FIELD_HEIGHT] = 8;
+        expected[at::WIDTH] = 1;
+        expected[at::OV_PALETTE] = 1;
+        expected[at::PRIORITY] = 255;
+        expected[at::POSITION] = 0x50000;
+        expected[at::ON] = 1;
+        assert_eq!(rig.frame, expected);
+    }
+
+    // Sound states.
+
+    fn sound_boards<C>() {
+        let mut rig = Rig::<C>::new();
+        rig.board[at::IRQF] = 1;
+        assert_eq!(rig.read(0x54), 1);
+        rig.board[at::CODE] = 255;
+        rig.board[at::LIST] = 85;
+        assert_eq!(rig.read(0x50), 255);
+        rig.board[at::FLAGS] = 2;
+        assert_eq!(rig.read(0x53), 2);
+
+        let limits = [
+            (at::VIDEO_CONTROL, 15),
+            (at::XDL_ADR, 524_287),
+            (at::BL_ADR, 524_287),
+            (at::P0, 255),
+            (at::P0 + 1, 255),
+            (at::P0 + 2, 255),
+            (at::P0 + 3, 255),
+            (at::IRQE, 1),
+            (at::IRQF, 1),
+            (at::LIST, 524_287),
+            (at::CODE, 255),
+        ];
+        for (word, last) in limits {
+            let mut rig = Rig::<C>::new();
+            rig.board[word] = last;
+            assert_eq!(rig.answer_read(0x40), 0);
+            for wrong in [last + 1, last + 256, last | 0x8000_0000] {
+                rig.board[word] = wrong;
+                assert_eq!(rig.answer_read(0x40), 15);
+            }
+        }
+    }
+
+    fn blocks_and_positions_of_sound_boards<C>() {
+        for flags in [0, 1] {
+            for word in at::BLOCK..BOARD_WORDS {
+                let mut rig = Rig::<C>::new();
+                rig.board[at::FLAGS] = flags;
+                rig.board[word] = 8;
+                assert_eq!(rig.answer_read(0x40), 15);
+            }
+        }
+        let mut rig = Rig::<C>::new();
+        rig.board[at::FLAGS] = 2;
+        assert_eq!(rig.answer_read(0x40), 0);
+        rig.board[at::COLUMN] = 1;
+        assert_eq!(rig.answer_read(0x40), 15);
+        rig.board[at::COLUMN] = 0;
+        rig.board[at::ROW] = 1;
+        assert_eq!(rig.answer_read(0x40), 15);
+
+        let mut rig = Rig::<C>::new();
+        rig.board[at::FLAGS] = 2;
+        rig.board[at::BLOCK..at::ROW].fill(255);
+        rig.board[at::ROW] = 2_047;
+        rig.board[at::COLUMN] = 4_095;
+        assert_eq!(rig.answer_read(0x40), 0);
+        rig.board[at::ROW] = 2_048;
+        assert_eq!(rig.answer_read(0x40), 15);
+        rig.board[at::ROW] = 65_536;
+        assert_eq!(rig.answer_read(0x40), 15);
+        rig.board[at::ROW] = 0;
+        rig.board[at::COLUMN] = 4_096;
+        assert_eq!(rig.answer_read(0x40), 15);
+        rig.board[at::COLUMN] = 65_536;
+        assert_eq!(rig.answer_read(0x40), 15);
+        rig.board[at::COLUMN] = 0;
+        for word in at::BLOCK..at::ROW {
+            rig.board[word] = 256;
+            assert_eq!(rig.answer_read(0x40), 15);
+            rig.board[word] = 255;
+        }
+        rig.board[at::FLAGS] = 3;
+        assert_eq!(rig.answer_read(0x40), 15);
+    }
+
+    fn the_list_address_is_no_position<C>() {
+        let mut rig = Rig::<C>::with_list(64, &[four(true)]);
+        rig.run_all();
+        assert_eq!(rig.board[at::LIST], 85);
+
+        let mut rig = Rig::<C>::with_list(64, &[four(true)]);
+        rig.run(3);
+        rig.write(0x53, 0);
+        assert_eq!(rig.board[at::LIST], 85);
+
+        let mut rig = Rig::<C>::with_list(64, &[four(true)]);
+        rig.run(3);
+        rig.board[at::CODE] = 5;
+        rig.reset();
+        assert_eq!((rig.board[at::LIST], rig.board[at::CODE]), (85, 5));
+    }
+
+    fn sound_frames<C>() {
+        let limits = [
+            (at::MODE, 0, 4),
+            (at::OVADR, 0, 524_287),
+            (at::OVSTEP, 0, 4_095),
+            (at::HSCROLL, 0, 7),
+            (at::VSCROLL, 0, 7),
+            (at::FONT, 0, 255),
+            (at::TEXT, 0, 7),
+            (at::MAP, 0, 1),
+            (at::MAPADR, 0, 524_287),
+            (at::MAPSTEP, 0, 4_095),
+            (at::MAP_HSCROLL, 0, 31),
+            (at::MAP_VSCROLL, 0, 31),
+            (at::FIELD_WIDTH, 8, 32),
+            (at::FIELD_HEIGHT, 1, 32),
+            (at::FIELD, 0, 7),
+            (at::WIDTH, 0, 2),
+            (at::OV_PALETTE, 0, 3),
+            (at::PF_PALETTE, 0, 3),
+            (at::PRIORITY, 0, 255),
+            (at::POSITION, 0, 524_287),
+            (at::REPEAT, 0, 255),
+            (at::ENDED, 0, 1),
+            (at::ON, 0, 1),
+        ];
+        for (word, first, last) in limits {
+            for value in [first, last] {
+                let mut rig = Rig::<C>::with_xdl(&[]);
+                rig.frame[word] = value;
+                assert_eq!(rig.answer_line(), 0, "word {word}, {value}");
+            }
+            for value in [first.wrapping_sub(1), last + 1, last + 256, last | 0x8000_0000] {
+                let mut rig = Rig::<C>::with_xdl(&[]);
+                rig.frame[word] = value;
+                assert_eq!(rig.answer_line(), 15, "word {word}, {value}");
+            }
+        }
+        let mut rig = Rig::<C>::with_xdl(&[]);
+        rig.frame[at::FIELD_HEIGHT] = 4;
+        rig.frame[at::FIELD] = 4;
+        assert_eq!(rig.answer_line(), 15);
+        rig.frame[at::FIELD] = 3;
+        rig.frame[at::ENDED] = 1;
+        rig.frame[at::MODE] = SR;
+        assert_eq!(rig.answer_line(), 0);
+        rig.frame[at::ON] = 0;
+        rig.frame[at::MODE] = SR;
+        assert_eq!(rig.answer_line(), 0);
+    }
+
+    fn a_frame_not_switched_on<C>() {
+        let mut rig = Rig::<C>::new();
+        rig.mem.fill(0xFF);
+        rig.start();
+        let beginning = rig.line();
+        assert_eq!(beginning[..], [0, 0, 0, 0, 0, 0, 0, 0, 0, 0, 0, 0, 8, 8, 0, 1, 1, 0, 255]);
+        rig.frame[at::MODE] = SR;
+        rig.frame[at::OVADR] = 5;
+        rig.frame[at::OVSTEP] = 7;
+        rig.frame[at::REPEAT] = 9;
+        rig.frame[at::MAP] = 1;
+        rig.frame[at::FIELD] = 6;
+        let mut after = rig.frame;
+        assert_eq!(rig.line(), beginning);
+        after[at::LINE] += 1;
+        assert_eq!(rig.frame, after);
+    }
+
+    // The blitter.
+
+    fn only_bit_0_starts_and_stops<C>() {
+        for value in [2, 0xFE, 0] {
+            let mut rig = Rig::<C>::with_blocks(&[four(true)]);
+            rig.run(3);
+            rig.board[at::CODE] = 5;
+            rig.board[at::IRQF] = 1;
+            rig.write(0x53, value);
+            assert_eq!(rig.board[at::FLAGS], 0);
+            assert_eq!(rig.board[at::BLOCK..], [0; 23]);
+            assert_eq!((rig.board[at::CODE], rig.board[at::IRQF]), (5, 1));
+        }
+        let mut rig = Rig::<C>::new();
+        rig.write(0x53, 0xFF);
+        assert_eq!(rig.board[at::FLAGS], 1);
+    }
+
+    fn starting_while_running<C>() {
+        let mut rig = Rig::<C>::with_list(64, &[four(true)]);
+        rig.run(3);
+        rig.board[at::CODE] = 5;
+        rig.board[at::IRQF] = 1;
+        rig.board[at::IRQE] = 1;
+        let mem = rig.mem.clone();
+        rig.write(0x53, 3);
+        let mut expected = [0; BOARD_WORDS];
+        expected[at::BL_ADR] = 64;
+        expected[at::IRQE] = 1;
+        expected[at::IRQF] = 1;
+        expected[at::LIST] = 64;
+        expected[at::FLAGS] = 1;
+        assert_eq!(rig.board, expected);
+        assert!(rig.mem == mem);
+    }
+
+    fn stopping_raises_nothing<C>() {
+        let mut rig = Rig::<C>::with_list(64, &[four(true)]);
+        rig.write(0x54, 1);
+        rig.run(3);
+        rig.board[at::CODE] = 5;
+        rig.write(0x53, 0);
+        assert_eq!(
+            [rig.board[at::CODE], rig.board[at::IRQF], rig.board[at::LIST]],
+            [5, 0, 85]
+        );
+        let board = rig.board;
+        rig.write(0x53, 0);
+        assert_eq!(rig.board, board);
+    }
+
+    fn the_interrupt_request<C>() {
+        let mut rig = Rig::<C>::with_blocks(&[four(true)]);
+        rig.board[at::IRQF] = 1;
+        rig.run_all();
+        assert_eq!(rig.board[at::IRQF], 1);
+
+        let mut rig = Rig::<C>::with_blocks(&[four(true)]);
+        rig.run_all();
+        assert_eq!(rig.board[at::IRQF], 0);
+        rig.write(0x54, 1);
+        assert_eq!((rig.board[at::IRQE], rig.board[at::IRQF]), (1, 0));
+
+        rig.board[at::IRQF] = 1;
+        rig.write(0x54, 0xFF);
+        assert_eq!((rig.board[at::IRQE], rig.board[at::IRQF]), (1, 0));
+        rig.board[at::IRQF] = 1;
+        rig.write(0x54, 0xFE);
+        assert_eq!((rig.board[at::IRQE], rig.board[at::IRQF]), (0, 0));
+    }
+
+    fn only_the_last_block_raises<C>() {
+        let byte = |control| Bcb { dest: 0x3000, and: 0, control, ..Bcb::default() };
+        let mut rig = Rig::<C>::with_blocks(&[byte(8), byte(0)]);
+        rig.write(0x54, 1);
+        assert_eq!(rig.run(2).0, 2);
+        assert_eq!((rig.board[at::FLAGS], rig.board[at::IRQF]), (1, 0));
+        assert_eq!(rig.board[at::BLOCK..], [0; 23]);
+        assert_eq!(rig.run(2).0, 2);
+        assert_eq!((rig.board[at::FLAGS], rig.board[at::IRQF]), (0, 1));
+    }
+
+    fn a_budget_that_ends_with_the_block<C>() {
+        let mut rig = Rig::<C>::with_blocks(&[four(true)]);
+        assert_eq!(rig.run(5), (5, 25));
+        assert_eq!(rig.board[at::FLAGS], 0);
+
+        let mut rig = Rig::<C>::with_blocks(&[four(true)]);
+        assert_eq!(rig.run(4), (4, 24));
+        assert_eq!((rig.board[at::FLAGS], rig.board[at::COLUMN]), (2, 3));
+        assert_eq!(rig.run(0), (0, 0));
+        assert_eq!(rig.tick(), (1, 1));
+        assert_eq!(rig.tick(), (0, 0));
+        assert_eq!(rig.board[at::FLAGS], 0);
+    }
+
+    fn later_blocks_are_read_when_their_tick_comes<C>() {
+        let first = Bcb { dest: 37, and: 0, xor: 0x77, control: 8, ..Bcb::default() };
+        let second = Bcb { dest: 0x3000, and: 0, xor: 9, ..Bcb::default() };
+        let mut rig = Rig::<C>::with_blocks(&[first, second]);
+        assert_eq!(rig.run_all(), (4, 44));
+        assert_eq!(rig.mem[0x3000], 0x77);
+
+        let own = Bcb { dest: 20, width: 2, and: 0, xor: 8, ..Bcb::default() };
+        let mut rig = Rig::<C>::with_blocks(&[own]);
+        assert_eq!(rig.run_all(), (3, 23));
+        assert_eq!(rig.board[at::FLAGS], 0);
+    }
+
+    fn the_list_wraps_within_a_block<C>() {
+        let mut rig = Rig::<C>::new();
+        let bytes: Vec<u8> = (101..122).collect();
+        rig.put(16_376, &bytes);
+        rig.start_list(524_280);
+        assert_eq!(rig.run(1), (1, 21));
+        assert_eq!(rig.board[at::LIST], 13);
+        assert_eq!(rig.board[at::BL_ADR], 524_280);
+        let block: Vec<u32> = (101..122).collect();
+        assert_eq!(rig.board[at::BLOCK..at::ROW], block);
+    }
+
+    fn memory_full_of_ff<C>() {
+        let mut rig = Rig::<C>::new();
+        rig.mem.fill(0xFF);
+        rig.write(0x53, 1);
+        assert_eq!(rig.run(1), (1, 21));
+        assert_eq!(rig.board[at::BLOCK..at::ROW], [255; 21]);
+        // 4,096 columns and 2,048 rows of mode 7, then on to the next block.
+        for _ in 0..16 {
+            assert_eq!((rig.board[at::FLAGS], rig.board[at::LIST]), (2, 21));
+            assert_eq!(rig.run(524_288), (524_288, 0));
+        }
+        assert_eq!((rig.board[at::FLAGS], rig.board[at::LIST]), (1, 21));
+    }
+
+    fn width_has_9_bits_and_height_8<C>() {
+        let block = Bcb { dest: 0x1000, width: 512, height: 2, dest_y: [0, 2], and: 0, xor: 1, ..Bcb::default() };
+        let mut bytes = block.bytes();
+        assert_eq!(bytes[12..14], [0xFF, 1]);
+        bytes[13] = 0xFF;
+        let mut rig = Rig::<C>::new();
+        rig.put(0, &bytes);
+        rig.write(0x53, 1);
+        assert_eq!(rig.run_all(), (1_025, 1_045));
+        assert_eq!(rig.cells(0x0FFF, 1_026), [&[0], &[1; 1_024][..], &[0]].concat());
+    }
+
+    fn steps_go_from_where_the_row_began<C>() {
+        let mut rig = Rig::<C>::with_blocks(&[Bcb {
+            dest: 0x3000,
+            dest_y: [16, 0],
+            width: 2,
+            height: 2,
+            and: 0,
+            xor: 1,
+            ..Bcb::default()
+        }]);
+        rig.run_all();
+        let mut expected = [0; 0x20];
+        for cell in [0, 1, 0x10, 0x11] {
+            expected[cell] = 1;
+        }
+        assert_eq!(rig.cells(0x3000, 0x20), expected);
+    }
+
+    fn steps_in_x_have_a_sign<C>() {
+        let mut rig = Rig::<C>::with_blocks(&[Bcb {
+            source: 0x2003,
+            source_x: 0xFF,
+            dest: 0x3000,
+            dest_x: 2,
+            width: 4,
+            ..Bcb::default()
+        }]);
+        rig.put(0x2000, &[1, 2, 3, 4]);
+        rig.run_all();
+        assert_eq!(rig.cells(0x3000, 8), [4, 0, 3, 0, 2, 0, 1, 0]);
+    }
+
+    fn zoom_in_y<C>() {
+        for zoom in [0x10, 0x98] {
+            let mut rig = Rig::<C>::with_blocks(&[Bcb {
+                source: 0x2000,
+                source_y: [2, 0],
+                dest: 0x3000,
+                dest_y: [16, 0],
+                width: 2,
+                height: 2,
+                zoom,
+                ..Bcb::default()
+            }]);
+            rig.put(0x2000, &[1, 2, 3, 4]);
+            assert_eq!(rig.run_all(), (9, 37));
+            for (row, shown) in [[1, 2], [1, 2], [3, 4], [3, 4]].iter().enumerate() {
+                assert_eq!(rig.cells(0x3000 + 16 * row, 2), shown);
+            }
+        }
+    }
+
+    fn zoom_in_x<C>() {
+        let mut rig = Rig::<C>::with_blocks(&[Bcb {
+            source: 0x2000,
+            dest: 0x3000,
+            width: 2,
+            zoom: 0x02,
+            ..Bcb::default()
+        }]);
+        rig.put(0x2000, &[1, 2]);
+        assert_eq!(rig.run_all(), (7, 33));
+        assert_eq!(rig.cells(0x3000, 7), [1, 1, 1, 2, 2, 2, 0]);
+    }
+
+    fn patterns_count_source_bytes<C>() {
+        let shown = |width, zoom, pattern, count| {
+            let mut rig = Rig::<C>::with_blocks(&[Bcb {
+                source: 0x2000,
+                dest: 0x3000,
+                width,
+                zoom,
+                pattern,
+                ..Bcb::default()
+            }]);
+            rig.put(0x2000, &[0, 1, 2, 3, 4, 5, 6, 7]);
+            rig.run_all();
+            rig.cells(0x3000, count).to_vec()
+        };
+        assert_eq!(shown(4, 1, 0x81, 8), [0, 0, 1, 1, 0, 0, 1, 1]);
+        assert_eq!(shown(3, 0, 0xBF, 3), [0, 1, 2]);
+        assert_eq!(shown(6, 0, 0xC3, 6), [0, 1, 2, 3, 0, 1]);
+        assert_eq!(shown(6, 0, 0x43, 6), [0, 1, 2, 3, 4, 5]);
+    }
+
+    fn the_source_is_read_anew<C>() {
+        let mut rig = Rig::<C>::with_blocks(&[Bcb {
+            source: 0x2000,
+            dest: 0x2000,
+            xor: 1,
+            zoom: 1,
+            ..Bcb::default()
+        }]);
+        rig.mem[0x2000] = 1;
+        assert_eq!(rig.run_all(), (3, 25));
+        assert_eq!(rig.cells(0x2000, 2), [0, 1]);
+    }
+
+    fn overlapping_copies_go_byte_by_byte<C>() {
+        let mut rig = Rig::<C>::with_blocks(&[Bcb {
+            source: 0x2000,
+            dest: 0x2001,
+            width: 4,
+            ..Bcb::default()
+        }]);
+        rig.mem[0x2000] = 7;
+        rig.run_all();
+        assert_eq!(rig.cells(0x2000, 6), [7, 7, 7, 7, 7, 0]);
+    }
+
+    fn the_and_mask_decides_about_the_read<C>() {
+        let accesses = |and, xor| {
+            let mut rig = Rig::<C>::with_blocks(&[Bcb { dest: 0x3000, and, xor, ..Bcb::default() }]);
+            rig.run_all().1 - 21
+        };
+        assert_eq!(accesses(0, 0), 1);
+        assert_eq!(accesses(0, 9), 1);
+        assert_eq!(accesses(1, 0), 2);
+    }
+
+    fn mode_7_takes_its_time<C>() {
+        let mut rig = Rig::<C>::with_blocks(&[Bcb {
+            source: 0x2000,
+            dest: 0x3000,
+            width: 3,
+            height: 2,
+            collision: 0xFF,
+            zoom: 0x11,
+            control: 7,
+            ..Bcb::default()
+        }]);
+        rig.mem[0x2000..].fill(3);
+        let mem = rig.mem.clone();
+        rig.write(0x54, 1);
+        assert_eq!(rig.run_all(), (25, 21));
+        assert_eq!((rig.board[at::IRQF], rig.board[at::CODE]), (1, 0));
+        assert!(rig.mem == mem);
+    }
+
+    fn modes_4_and_5_with_a_source_of_0<C>() {
+        assert_eq!(one::<C>(5, 0, 33, 0xFF, 0), (33, 0, 2));
+        assert_eq!(one::<C>(4, 0, 33, 0xFF, 0), (0, 0, 2));
+    }
+
+    fn a_source_of_0_in_the_other_modes<C>() {
+        assert_eq!(one::<C>(0, 0, 33, 0xFF, 0), (0, 0, 1));
+        for mode in [1, 2, 3, 6] {
+            assert_eq!(one::<C>(mode, 0, 33, 0xFF, 0), (33, 0, 0));
+        }
+    }
+
+    fn accesses_of_mode_1_and_6<C>() {
+        assert_eq!(one::<C>(1, 1, 33, 0, 0), (1, 0, 1));
+        assert_eq!(one::<C>(1, 1, 0, 1, 0), (1, 0, 2));
+        assert_eq!(one::<C>(1, 0, 33, 0xFF, 0), (33, 0, 0));
+        assert_eq!(one::<C>(6, 1, 0x33, 0, 0), (0x31, 0, 2));
+    }
+
+    fn the_code_is_what_was_there_before<C>() {
+        assert_eq!(one::<C>(2, 100, 200, 0x40, 0), (44, 200, 2));
+        assert_eq!(one::<C>(3, 1, 32, 2, 0), (33, 32, 2));
+        assert_eq!(one::<C>(4, 1, 32, 2, 0), (0, 32, 2));
+        assert_eq!(one::<C>(5, 1, 32, 2, 0), (33, 32, 2));
+    }
+
+    fn modes_0_and_7_never_collide<C>() {
+        assert_eq!(one::<C>(0, 1, 33, 0xFF, 0), (1, 0, 1));
+        assert_eq!(one::<C>(7, 1, 33, 0xFF, 0), (33, 0, 0));
+    }
+
+    fn nibbles_of_mode_6<C>() {
+        let mut rig = Rig::<C>::with_blocks(&[Bcb {
+            dest: 0x2000,
+            width: 2,
+            and: 0,
+            xor: 0x55,
+            collision: 0x30,
+            control: 6,
+            ..Bcb::default()
+        }]);
+        rig.put(0x2000, &[0x90, 0x0A]);
+        rig.run(2);
+        assert_eq!(rig.board[at::CODE], 0x90);
+        rig.run(1);
+        assert_eq!(rig.board[at::CODE], 0x9A);
+        assert_eq!(rig.cells(0x2000, 2), [0x55, 0x55]);
+        assert_eq!(one::<C>(6, 0x10, 0x1F, 0x80, 0x33), (0x1F, 0x33, 2));
+        for d in 0..16 {
+            for bit in 0..8 {
+                let hit = d != 0 && d / 2 == bit;
+                let code = if hit { d } else { 7 };
+                assert_eq!(one::<C>(6, 1, d, 1 << bit, 0x57).1, u32::from(0x50 | code));
+                assert_eq!(one::<C>(6, 0x10, d << 4, 1 << bit, 0x75).1, u32::from(code << 4 | 5));
+            }
+        }
+    }
+
+    fn later_collisions_replace_earlier_ones<C>() {
+        let byte = |dest, control| Bcb { dest, and: 0, xor: 1, collision: 2, control, ..Bcb::default() };
+        let mut rig = Rig::<C>::with_blocks(&[byte(0x2000, 9), byte(0x2001, 1)]);
+        rig.put(0x2000, &[33, 40]);
+        rig.run_all();
+        assert_eq!(rig.read(0x50), 40);
+        rig.write(0x53, 1);
+        assert_eq!(rig.read(0x50), 0);
+    }
+
+    fn registers_while_running<C>() {
+        let mut rig = Rig::<C>::with_blocks(&[four(true)]);
+        assert_eq!(rig.read(0x53), 1);
+        rig.write(0x50, 0x80);
+        assert_eq!((rig.board[at::LIST], rig.board[at::BL_ADR]), (0, 128));
+        rig.run(1);
+        assert_eq!(rig.read(0x53), 2);
+        rig.run_all();
+        assert_eq!(rig.read(0x53), 0);
+        assert_eq!(rig.board[at::BL_ADR], 128);
+    }
+
+    fn unused_bits_of_registers<C>() {
+        let mut rig = Rig::<C>::new();
+        rig.write(0x43, 0xFF);
+        rig.write(0x42, 0x12);
+        rig.write(0x41, 0x34);
+        assert_eq!(rig.board[at::XDL_ADR], 0x71234);
+        rig.write(0x52, 0xFE);
+        rig.write(0x51, 0x56);
+        rig.write(0x50, 0x78);
+        assert_eq!(rig.board[at::BL_ADR], 0x65678);
+        rig.write(0x40, 0xF7);
+        assert_eq!(rig.board[at::VIDEO_CONTROL], 7);
+        for priority in 0..4 {
+            rig.write(0x55 + priority, 0xF0 + priority as u8);
+        }
+        assert_eq!(rig.board[at::P0..at::IRQE], [0xF0, 0xF1, 0xF2, 0xF3]);
+    }
+
+    fn writes_that_do_nothing<C>() {
+        let mut rig = Rig::<C>::with_blocks(&[four(true)]);
+        rig.run(3);
+        let board = rig.board;
+        for offset in (0x44..=0x4F).chain(0x59..=0x5F) {
+            rig.write(offset, 0xFF);
+        }
+        assert_eq!(rig.board, board);
+    }
+
+    fn all_reads<C>() {
+        let mut rig = Rig::<C>::new();
+        rig.board[at::P0..at::IRQE].fill(3);
+        for offset in 0x40..=0x5F {
+            let expected = match offset {
+                0x40 => 0x10,
+                0x41 => 0x24,
+                0x4A | 0x50 | 0x53 | 0x54 | 0x5E | 0x5F => 0,
+                _ => 255,
+            };
+            assert_eq!(rig.read(offset), expected);
+        }
+    }
+
+    fn reset_clears_these_alone<C>() {
+        let mut rig = Rig::<C>::with_list(64, &[four(true)]);
+        rig.run(3);
+        rig.board[at::VIDEO_CONTROL] = 15;
+        rig.board[at::XDL_ADR] = 0x12345;
+        rig.board[at::P0..at::IRQE].fill(9);
+        rig.board[at::IRQE] = 1;
+        rig.board[at::IRQF] = 1;
+        rig.board[at::CODE] = 5;
+        rig.reset();
+        let mut expected = [0; BOARD_WORDS];
+        expected[at::XDL_ADR] = 0x12345;
+        expected[at::BL_ADR] = 64;
+        expected[at::P0..at::IRQE].fill(9);
+        expected[at::LIST] = 85;
+        expected[at::CODE] = 5;
+        assert_eq!(rig.board, expected);
+    }
+
+    fn one_block_may_need_nine_runs<C>() {
+        let mut rig = Rig::<C>::with_list(0x2000, &[Bcb {
+            width: 512,
+            height: 256,
+            dest_x: 0,
+            and: 0,
+            xor: 1,
+            zoom: 0x77,
+            control: 5,
+            ..Bcb::default()
+        }]);
+        assert_eq!(rig.run(1_000_000), (1_000_000, 21 + 2 * 999_999));
+        for _ in 1..8 {
+            assert_eq!(rig.run(1_000_000), (1_000_000, 2_000_000));
+        }
+        assert_eq!(rig.run(388_608), (388_608, 777_216));
+        assert_eq!((rig.board[at::ROW], rig.board[at::COLUMN]), (2_047, 4_095));
+        assert_eq!(rig.run(1_000_000), (1, 2));
+        assert_eq!((rig.board[at::FLAGS], rig.mem[0]), (0, 0));
+    }
+
+    // The frame.
+
+    fn text_with_off_is_off_and_resets_nothing<C>() {
+        let mut rig = Rig::<C>::with_xdl(&[0x21, 0, 2, 2, 0, 5, 0, 0, 0x80]);
+        assert_eq!(
+            rig.some(6, &[at::MODE, at::TEXT]),
+            [[TEXT, 0], [TEXT, 1], [TEXT, 2], [SR, 3], [OFF, 3], [OFF, 3]]
+        );
+    }
+
+    fn text_again_restarts_the_row<C>() {
+        let mut rig = Rig::<C>::with_xdl(&[0x21, 0, 2, 1, 0x80]);
+        assert_eq!(rig.column(4, at::TEXT), [0, 1, 2, 0]);
+    }
+
+    fn resolution_counts_with_graphics_alone<C>() {
+        let first = |xdl: &[u8]| Rig::<C>::with_xdl(xdl).line()[at::MODE];
+        assert_eq!(first(&[1, 0x30]), TEXT);
+        assert_eq!(first(&[2, 0x30]), OFF);
+        assert_eq!(first(&[2, 0x00]), SR);
+        assert_eq!(first(&[2, 0x10]), HR);
+        assert_eq!(first(&[2, 0x20]), LR);
+        let mut rig = Rig::<C>::with_xdl(&[2, 0, 0, 0x30]);
+        assert_eq!(rig.column(2, at::MODE), [SR, SR]);
+    }
+
+    fn all_eight_switches_of_the_overlay<C>() {
+        for bits in 0..8 {
+            let expected = match bits {
+                0 => LR,
+                1 => TEXT,
+                2 => SR,
+                _ => OFF,
+            };
+            let mut rig = Rig::<C>::with_xdl(&[2, 0x20, bits, 0]);
+            assert_eq!(rig.column(2, at::MODE), [LR, expected]);
+        }
+    }
+
+    fn a_forbidden_resolution_is_a_record_like_any<C>() {
+        let mut rig = Rig::<C>::with_xdl(&[0x42, 0x31, 0x34, 0x12, 0xFF, 0x67, 0xF5, 9, 2, 0x80]);
+        let lines = rig.some(2, &[at::MODE, at::OVADR, at::OVSTEP, at::FONT]);
+        assert_eq!(lines, [[OFF, 0x71234, 0x567, 9], [SR, 0x71234, 0x567, 9]]);
+    }
+
+    fn the_map_switches<C>() {
+        let mut rig = Rig::<C>::with_xdl(&[
+            0x28, 6, 2, 0, 0, 0, 5, 0, 0, 0, 7, 7, 0x10, 0, 8, 0x80,
+        ]);
+        assert_eq!(
+            rig.some(6, &[at::MAP, at::FIELD]),
+            [[1, 0], [1, 1], [1, 2], [0, 3], [1, 3], [0, 4]]
+        );
+        let mut rig = Rig::<C>::with_xdl(&[8, 0, 0, 0, 0x18, 0, 0, 0]);
+        assert_eq!(rig.column(4, at::MAP), [1, 1, 0, 0]);
+    }
+
+    fn the_map_parameters<C>() {
+        let mut rig = Rig::<C>::with_xdl(&[0x28, 4, 2, 0xFF, 0xFF, 3, 0xFF, 0, 2, 1, 0, 0, 0, 0]);
+        let words = [at::MAP_HSCROLL, at::MAP_VSCROLL, at::FIELD_WIDTH, at::FIELD_HEIGHT, at::FIELD];
+        let lines = rig.some(4, &words);
+        assert_eq!(lines[0], [31, 31, 8, 32, 0]);
+        assert_eq!(lines[2], [31, 31, 8, 32, 2]);
+        assert_eq!(lines[3], [31, 31, 8, 32, 0]);
+        for (byte, width) in [(6, 8), (7, 8), (8, 9), (31, 32), (0xE8, 9)] {
+            let mut rig = Rig::<C>::with_xdl(&[0, 4, 0, 0, byte, 0]);
+            assert_eq!(rig.line()[at::FIELD_WIDTH], width);
+        }
+    }
+
+    fn the_map_steps_after_its_height<C>() {
+        let mut rig = Rig::<C>::with_xdl(&[
+            0x28, 0x86, 9, 0xFE, 0xFF, 0xFF, 3, 0xF0, 0, 0, 7, 3,
+        ]);
+        assert_eq!(
+            rig.some(12, &[at::MAP, at::MAPADR, at::FIELD]),
+            [
+                [1, 0x7FFFE, 0],
+                [1, 0x7FFFE, 1],
+                [1, 0x7FFFE, 2],
+                [1, 0x7FFFE, 3],
+                [1, 1, 0],
+                [1, 1, 1],
+                [1, 1, 2],
+                [1, 1, 3],
+                [1, 4, 0],
+                [1, 4, 1],
+                [0, 4, 2],
+                [0, 4, 2]
+            ]
+        );
+    }
+
+    fn the_attributes<C>() {
+        let words = [at::WIDTH, at::OV_PALETTE, at::PF_PALETTE, at::PRIORITY];
+        let first = |byte| Rig::<C>::with_xdl(&[0, 8, byte, 0x5A]).some(1, &words).remove(0);
+        assert_eq!(first(0xFE), [2, 3, 3, 0x5A]);
+        assert_eq!(first(0x03), [1, 0, 0, 0x5A]);
+        assert_eq!(first(0x10), [0, 1, 0, 0x5A]);
+        assert_eq!(first(0x4D), [1, 0, 1, 0x5A]);
+    }
+
+    fn repeats<C>() {
+        let mut rig = Rig::<C>::with_xdl(&[0x22, 0, 255]);
+        assert_eq!(rig.column(240, at::MODE), [SR; 240]);
+        assert_eq!((rig.frame[at::REPEAT], rig.frame[at::LINE]), (16, 240));
+        let mut rig = Rig::<C>::with_xdl(&[0x22, 0, 1, 0x21, 0, 0, 4, 0]);
+        assert_eq!(rig.column(4, at::MODE), [SR, SR, TEXT, OFF]);
+    }
+
+    fn the_end_takes_hold_at_the_next_line<C>() {
+        let begun = |repeat| {
+            let mut rig = Rig::<C>::with_xdl(&[]);
+            rig.frame[at::ENDED] = 1;
+            rig.frame[at::REPEAT] = repeat;
+            rig.frame[at::MODE] = SR;
+            rig.frame[at::MAP] = 1;
+            rig.frame[at::OVADR] = 5;
+            rig.frame[at::OVSTEP] = 7;
+            rig
+        };
+        let words = [at::MODE, at::MAP, at::OVADR];
+        let mut rig = begun(0);
+        assert_eq!(rig.some(1, &words), [[OFF, 0, 5]]);
+        assert_eq!([rig.frame[at::MODE], rig.frame[at::MAP], rig.frame[at::OVADR]], [OFF, 0, 5]);
+        let mut rig = begun(2);
+        assert_eq!(rig.some(2, &words), [[SR, 1, 5], [SR, 1, 12]]);
+        assert_eq!([rig.frame[at::MODE], rig.frame[at::MAP], rig.frame[at::OVADR]], [SR, 1, 19]);
+        assert_eq!(rig.some(2, &words), [[OFF, 0, 19], [OFF, 0, 19]]);
+        assert_eq!(rig.frame[at::POSITION], 0);
+    }
+
+    fn what_is_held_below_the_end<C>() {
+        let mut rig = Rig::<C>::with_xdl(&[0x61, 0x80, 9, 0, 0x10, 0, 0xA0, 0]);
+        let lines = rig.some(240, &[at::MODE, at::TEXT, at::OVADR]);
+        assert_eq!(lines[7], [TEXT, 7, 0x1000]);
+        assert_eq!(lines[9], [TEXT, 1, 0x10A0]);
+        assert!(lines[10..].iter().all(|line| line == &[OFF, 2, 0x10A0]));
+    }
+
+    fn a_list_without_end<C>() {
+        let mut rig = Rig::<C>::with_xdl(&[]);
+        rig.lines(240);
+        assert_eq!((rig.frame[at::POSITION], rig.frame[at::ENDED]), (480, 0));
+    }
+
+    fn a_record_that_wraps<C>() {
+        let data: Vec<u8> = (1..=20).collect();
+        for back in 0..22 {
+            let record = [&[0xE2, 0x0F][..], &data].concat();
+            let mut rig = Rig::<C>::with_xdl_at(524_288 - back, &record);
+            assert_eq!(
+                rig.line()[..],
+                [
+                    SR, 0x40302, 0x605, 7, 0, 9, 0, 0, 0x40B0A, 0xE0D, 15, 16, 18, 19, 0, 1, 1, 0, 20
+                ]
+            );
+            assert_eq!(rig.frame[at::POSITION], 22 - back);
+            assert_eq!(rig.frame[at::REPEAT], 1);
+        }
+    }
+
+    fn unused_bits_of_a_record<C>() {
+        let mut rig = Rig::<C>::with_xdl(&[
+            0xC0, 0x42, 0xFF, 0xFF, 0xFF, 0xFF, 0xFF, 0xFF, 0xFF, 0xFF, 0xFF, 0xFF, 0xFF, 0xFF,
+        ]);
+        let words = [at::OVADR, at::OVSTEP, at::HSCROLL, at::VSCROLL, at::MAPADR, at::MAPSTEP];
+        assert_eq!(rig.some(1, &words), [[0x7FFFF, 4_095, 7, 7, 0x7FFFF, 4_095]]);
+    }
+
+    fn the_text_counter_is_kept_in_pixel_modes<C>() {
+        let mut rig = Rig::<C>::with_xdl(&[0x21, 0, 2, 0x22, 0, 3, 0x01, 0]);
+        assert_eq!(rig.column(8, at::TEXT), [0, 1, 2, 3, 3, 3, 3, 0]);
+    }
+
+    fn text_lines_step_after_8<C>() {
+        let mut rig = Rig::<C>::with_xdl(&[0x61, 0, 20, 0xF0, 0xFF, 7, 0x20, 0]);
+        assert_eq!(
+            rig.some(18, &[at::OVADR, at::TEXT]),
+            (0..18).map(|k| vec![(0x7FFF0 + k / 8 * 0x20) & 0x7FFFF, k % 8]).collect::<Vec<_>>()
+        );
+    }
+
+    // Plans.
+
+    fn below_the_plan<C>() {
+        let band = Full { lines: 3, mode: 2, ovadr: 0x1000, ovstep: 0x140, ..Full::default() };
+        let more = Running { lines: 2, hscroll: 5, palettes: 6, ..Running::default() };
+        let lines = lines_of::<C>(&joined(&[band.bytes(), more.bytes()]));
+        let shown: Vec<_> = lines.iter().map(|line| line[at::OVADR]).collect();
+        assert_eq!(shown[..5], [0x1000, 0x1140, 0x1280, 0x13C0, 0x1500]);
+        for line in &lines[..3] {
+            assert_eq!((line[at::HSCROLL], line[at::OV_PALETTE], line[at::PF_PALETTE]), (0, 1, 0));
+        }
+        for line in &lines[3..5] {
+            assert_eq!((line[at::MODE], line[at::HSCROLL]), (SR, 5));
+        }
+        for line in &lines[5..] {
+            assert_eq!((line[at::MODE], line[at::OVADR], line[at::HSCROLL]), (OFF, 0x1640, 5));
+            assert_eq!((line[at::OV_PALETTE], line[at::PF_PALETTE]), (2, 1));
+        }
+    }
+
+    fn running_on_keeps_the_text_row<C>() {
+        let band = Full { lines: 3, mode: 1, ovadr: 0x1000, ovstep: 0xA0, ..Full::default() };
+        let more = Running { lines: 6, vscroll: 4, ..Running::default() };
+        let lines = lines_of::<C>(&joined(&[band.bytes(), more.bytes()]));
+        for (k, line) in lines[..9].iter().enumerate() {
+            assert_eq!(line[at::TEXT], k as u32 % 8);
+            assert_eq!(line[at::OVADR], 0x1000 + k as u32 / 8 * 0xA0);
+        }
+    }
+
+    fn what_running_on_changes<C>() {
+        let band = Full {
+            lines: 1, mode: 2, ovadr: 0x40000, ovstep: 1, hscroll: 1, vscroll: 2, font: 3, map: 1,
+            mapadr: 0x50000, mapstep: 2, map_hscroll: 30, map_vscroll: 29, field_width: 17,
+            field_height: 1, width: 0, palettes: 6, priority: 0x12,
+        };
+        let more = Running {
+            lines: 1, hscroll: 4, vscroll: 5, font: 6, width: 2, palettes: 9, priority: 0x34,
+        };
+        let lines = lines_of::<C>(&joined(&[band.bytes(), more.bytes()]));
+        assert_eq!(
+            lines[0],
+            [SR, 0x40000, 1, 1, 2, 3, 0, 1, 0x50000, 2, 30, 29, 17, 1, 0, 0, 2, 1, 0x12]
+        );
+        assert_eq!(
+            lines[1],
+            [SR, 0x40001, 1, 4, 5, 6, 0, 1, 0x50002, 2, 30, 29, 17, 1, 0, 2, 1, 2, 0x34]
+        );
+        assert_eq!(
+            lines[2],
+            [OFF, 0x40002, 1, 4, 5, 6, 0, 0, 0x50004, 2, 30, 29, 17, 1, 0, 2, 1, 2, 0x34]
+        );
+    }
+
+    fn bytes_of_the_records<C>() {
+        let band = Full {
+            lines: 240, mode: 3, ovadr: 0x71234, ovstep: 0x567, hscroll: 1, vscroll: 2, font: 3, map: 1,
+            mapadr: 0x6789A, mapstep: 0xBCD, map_hscroll: 30, map_vscroll: 29, field_width: 32,
+            field_height: 31, width: 2, palettes: 14, priority: 0x12,
+        };
+        assert_eq!(
+            compile::<C>(&band.bytes()).unwrap(),
+            [
+                0xEA, 0x9F, 239, 0x34, 0x12, 7, 0x67, 5, 1, 2, 3, 0x9A, 0x78, 6, 0xCD, 0x0B, 30, 29, 31, 30,
+                0xE2, 0x12
+            ]
+        );
+        let controls = |mode, map| {
+            let xdl = compile::<C>(&Full { mode, map, ..Full::default() }.bytes()).unwrap();
+            [xdl[0], xdl[1], xdl[2]]
+        };
+        assert_eq!(controls(0, 0), [0xF4, 0x8F, 0]);
+        assert_eq!(controls(1, 0), [0xF1, 0x8F, 0]);
+        assert_eq!(controls(2, 1), [0xEA, 0x8F, 0]);
+        assert_eq!(controls(3, 0), [0xF2, 0x9F, 0]);
+        assert_eq!(controls(4, 1), [0xEA, 0xAF, 0]);
+
+        let more = Running {
+            lines: 7, hscroll: 4, vscroll: 5, font: 6, width: 2, palettes: 9, priority: 0x34,
+        };
+        let xdl = compile::<C>(&joined(&[full(), more.bytes(), more.bytes()])).unwrap();
+        assert_eq!(xdl[..2], [0xF4, 0x0F]);
+        assert_eq!(xdl[22..30], [0xA0, 0x09, 6, 4, 5, 6, 0x92, 0x34]);
+        assert_eq!(xdl[30..], [0xA0, 0x89, 6, 4, 5, 6, 0x92, 0x34]);
+    }
+
+    fn zeros_behind_240_bands<C>() {
+        let plan = [times(240, full()), vec![0; 1_713]].concat();
+        assert_eq!(compile::<C>(&plan), Err((7, 240)));
+    }
+}
