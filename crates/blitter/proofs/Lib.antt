@@ -2,6 +2,7 @@
 pub mod Sound
 pub mod Tick
 pub mod Run
+mod Following
 mod Single
 mod Burst
 mod Going

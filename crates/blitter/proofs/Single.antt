@@ -22,15 +22,16 @@ unfolding strokeOf
 stroke-small mode mask s d code k e = rw (ap (λ (x : Stroke). x .accesses) e) (accesses-small mode mask s)
 
 module _
-    (b : Block) (mem : List ℕ) (row col code : ℕ) (raw to mode d : ℕ) (k : Stroke) (reads : Bool)
-    (raw-is : raw ≡ cond (readsSource b) (cellAt mem (sourceAddress b row col)) 0)
+    (b : Block) (mem : List ℕ) (row col code : ℕ) (from raw to mode d : ℕ) (k : Stroke) (reads : Bool)
+    (from-is : from ≡ sourceAddress b row col)
+    (raw-is : raw ≡ cond (readsSource b) (cellAt mem from) 0)
     (to-is : to ≡ destAddress b row col)
     (mode-is : mode ≡ modeOf b)
     (d-is : d ≡ cellAt mem to)
     (k-is : k ≡ strokeOf mode (b .hitmask) (bitXor (bitAnd raw (b .andmask)) (b .xormask)) d code) where
   whole : k ≡ strokeOf (modeOf b) (b .hitmask) (sourceByte b mem row col) (destByte b mem row col) code
   unfolding sourceByte destByte
-  whole = k-is ∙ rw (mode-is, raw-is, d-is, to-is)
+  whole = k-is ∙ rw (mode-is, raw-is, from-is, d-is, to-is)
 
   -- what a stroke leaves beside memory, and memory
   pub strike-is :

@@ -2,13 +2,27 @@
 use mathlib.Core.Path.{_≡_}
 use mathlib.Core.Bool.{true}
 use mathlib.Core.List.{List}
-use Prim.Native.Nat.{ℕ, _-_, _*_, _≤_, _<_}
+use Prim.Native.Nat.{ℕ, _-_, _*_, _/_, _%_, _≤_, _<_}
 use lib.Count.{ones}
 use lib.ListN.{length}
-use Rattle.block.specs.Block.{columnsOf, rowsOf}
+use Rattle.block.specs.Block.{zoomX, zoomY, patternOf, columnsOf, rowsOf}
+use Rattle.block.specs.declared.Block.{Block}
 use Rattle.blitter.specs.declared.Blitter.{Blitter}
+use Rattle.blitter.specs.declared.Place.{Place}
 use Rattle.blitter.specs.State.{soundBlitter}
 use Rattle.blitter.specs.Run.{runFor, running}
+
+-- a place in a block, with "floor(row/ZY)" and "floor(col/ZX) mod Q", and what those divisions leave
+abbrev pub placeAt : Block → ℕ → ℕ → Place
+placeAt b row col =
+    record {
+      row = row;
+      col = col;
+      down = row % zoomY b;
+      across = col % zoomX b;
+      sourcerow = row / zoomY b;
+      sourcecol = col / zoomX b % patternOf b;
+    }
 
 -- what a burst is handed: a busy blitter, and budget left
 pub record BurstFrom (b : Blitter) (mem : List ℕ) (ticks accesses budget : ℕ) : Type 0 where

@@ -1,16 +1,16 @@
 ghost use mathlib.Core.Path.{_≡_};
 ghost use mathlib.Core.Bool.{true, cond};
-ghost use Prim.Native.Nat.{_≤_, _<_};
+ghost use Prim.Native.Nat.{_+_, _≤_, _<_};
 ghost use lib.Count.{ones};
 ghost use lib.Dec.{eqb};
 ghost use lib.ListN.{length, set};
 ghost use Rattle.vram.specs.Memory.{goodLength, place, cellAt};
-ghost use Rattle.block.specs.Block.{sourceAddress};
+ghost use Rattle.step.specs.Step.{sideAddress};
 ghost use Rattle.block.specs.Byte.{readsSource, written, struckAt};
 ghost use Rattle.blitter.specs.State.{newBlitter, inside, blank, soundBlitter, started, stopped, interrupts};
 ghost use Rattle.blitter.specs.Tick.{loadTick, ended};
 ghost use Rattle.blitter.specs.Run.{runFor, running, begun, runTold, runAnswer, runBlitter, runMemory};
-ghost use Rattle.blitter.specs.Engine.{BurstFrom, BurstTo};
+ghost use Rattle.blitter.specs.Engine.{placeAt, BurstFrom, BurstTo};
 use block::Block;
 use block::Struck;
 use mode::Stroke;
@@ -48,6 +48,72 @@ struct Sofar {
     accesses: u32,
 }
 
+// A place in a block: its row and column, how far it is down and across in the rows and columns that show
+// one source byte, and the row and column of that byte. Kept from tick to tick, so that no tick divides.
+struct Place {
+    row: u16,
+    col: u16,
+    down: u16,
+    across: u16,
+    sourcerow: u16,
+    sourcecol: u16,
+}
+
+// The place at a row and a column.
+fn place_of(block: Block, row: u16, col: u16) -> Place
+    ensures { λ r. ⌜ r ≡ placeAt block row col ⌝ }
+{
+    let zx = block.zoom_x();
+    let zy = block.zoom_y();
+    Place {
+        row,
+        col,
+        down: row % zy,
+        across: col % zx,
+        sourcerow: row / zy,
+        sourcecol: col / zx % block.pattern_width(),
+    }
+}
+
+impl Place {
+    // The next column: the same source column, or the next of the pattern, or its first.
+    fn next_col(mut self, block: Block) -> Place
+        requires { ⌜ (self ≡ placeAt block (self .row) (self .col)) × (self .col < 65535) ⌝ }
+        ensures { λ r. ⌜ r ≡ placeAt block (self .row) (self .col + 1) ⌝ }
+    {
+        self.col += 1;
+        if self.across + 1 < block.zoom_x() {
+            self.across += 1;
+            return self;
+        }
+        self.across = 0;
+        if self.sourcecol + 1 < block.pattern_width() {
+            self.sourcecol += 1;
+            return self;
+        }
+        self.sourcecol = 0;
+        self
+    }
+
+    // The first column of the next row: of the same source row, or of the next.
+    fn next_row(mut self, block: Block) -> Place
+        requires { ⌜ (self ≡ placeAt block (self .row) (self .col)) × (self .row < 65535) ⌝ }
+        ensures { λ r. ⌜ r ≡ placeAt block (self .row + 1) 0 ⌝ }
+    {
+        self.row += 1;
+        self.col = 0;
+        self.across = 0;
+        self.sourcecol = 0;
+        if self.down + 1 < block.zoom_y() {
+            self.down += 1;
+            return self;
+        }
+        self.down = 0;
+        self.sourcerow += 1;
+        self
+    }
+}
+
 // Where an address falls in a memory of n bytes: n is a power of two, so n - 1 is a mask.
 fn index(n: usize, address: u32) -> usize
     requires { ⌜ ones n ≡ 1 ⌝ }
@@ -65,12 +131,13 @@ fn cell(mem: &[u8], address: u32) -> u8
 }
 
 // The source byte as it was read; 0 stands for one that is not read.
-fn raw_source(block: Block, mem: &[u8], row: u16, col: u16) -> u8
+fn raw_source(block: Block, mem: &[u8], sourcerow: u16, sourcecol: u16) -> u8
     requires { ⌜ ones (length (now mem)) ≡ 1 ⌝ }
-    ensures { λ r. ⌜ r ≡ cond (readsSource block) (cellAt (now (mem .entry)) (sourceAddress block row col)) 0 ⌝ }
+    ensures { λ r. ⌜ r ≡ cond (readsSource block) (cellAt (now (mem .entry)) (sideAddress (block .source) sourcerow sourcecol)) 0 ⌝ }
 {
     if block.reads() {
-        cell(mem, block.source(row, col))
+        let side = block.source;
+        cell(mem, side.address(sourcerow, sourcecol))
     } else {
         0
     }
@@ -88,13 +155,14 @@ fn put(mem: &mut [u8], address: u32, stroke: Stroke)
 }
 
 // One destination byte of a block: the single byte that every engine goes through.
-fn strike(block: Block, mem: &mut [u8], row: u16, col: u16, code: u8) -> Struck
-    requires { ⌜ ones (length (now mem)) ≡ 1 ⌝ }
-    ensures struck { λ r. ⌜ r ≡ struckAt block (now (mem .entry)) row col code ⌝ }
-    ensures memory { λ _. ⌜ now (mem .exit) ≡ written block row col (now (mem .entry)) ⌝ }
+fn strike(block: Block, mem: &mut [u8], place: Place, code: u8) -> Struck
+    requires { ⌜ (ones (length (now mem)) ≡ 1) × (place ≡ placeAt block (place .row) (place .col)) ⌝ }
+    ensures struck { λ r. ⌜ r ≡ struckAt block (now (mem .entry)) (place .row) (place .col) code ⌝ }
+    ensures memory { λ _. ⌜ now (mem .exit) ≡ written block (place .row) (place .col) (now (mem .entry)) ⌝ }
 {
-    let s = (raw_source(block, mem, row, col) & block.andmask) ^ block.xormask;
-    let to = block.destination(row, col);
+    let raw = raw_source(block, mem, place.sourcerow, place.sourcecol);
+    let s = (raw & block.andmask) ^ block.xormask;
+    let to = block.destination(place.row, place.col);
     let stroke = mode::stroke_of(block.mode(), block.hitmask, s, cell(mem, to), code);
     put(mem, to, stroke);
     Struck {
@@ -234,21 +302,19 @@ impl Blitter {
         let block = self.block;
         let columns = block.columns();
         let rows = block.rows();
-        let mut row = self.row;
-        let mut col = self.col;
+        let mut place = place_of(block, self.row, self.col);
         let mut code = self.code;
         let mut done = ticks;
         let mut made = accesses;
         while done < budget {
-            let struck = strike(block, mem, row, col, code);
+            let struck = strike(block, mem, place, code);
             code = struck.code;
             made += struck.accesses as u32;
             done += 1;
-            if col + 1 < columns {
-                col += 1;
-            } else if row + 1 < rows {
-                row += 1;
-                col = 0;
+            if place.col + 1 < columns {
+                place = place.next_col(block);
+            } else if place.row + 1 < rows {
+                place = place.next_row(block);
             } else {
                 let blitter = self.end(code);
                 return Sofar {
@@ -258,8 +324,8 @@ impl Blitter {
                 };
             }
         }
-        self.row = row;
-        self.col = col;
+        self.row = place.row;
+        self.col = place.col;
         self.code = code;
         Sofar {
             blitter: self,

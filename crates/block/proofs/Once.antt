@@ -7,10 +7,16 @@ use Rattle.block.proofs.Block.none.Kinds as none-kinds
 use Rattle.block.proofs.Block.none.Reads as none
 use Rattle.block.proofs.Block.is_none.Kinds as is-none-kinds
 use Rattle.block.proofs.Block.is_none.Reads as is-none
+use Rattle.block.proofs.Block.zoom_x.Kinds as zoom-x-kinds
+use Rattle.block.proofs.Block.zoom_x.Reads as zoom-x
+use Rattle.block.proofs.Block.zoom_y.Kinds as zoom-y-kinds
+use Rattle.block.proofs.Block.zoom_y.Reads as zoom-y
 use Rattle.block.proofs.Block.columns.Kinds as columns-kinds
 use Rattle.block.proofs.Block.columns.Reads as columns
 use Rattle.block.proofs.Block.rows.Kinds as rows-kinds
 use Rattle.block.proofs.Block.rows.Reads as rows
+use Rattle.block.proofs.Block.pattern_width.Kinds as pattern-width-kinds
+use Rattle.block.proofs.Block.pattern_width.Reads as pattern-width
 use Rattle.block.proofs.Block.mode.Kinds as mode-kinds
 use Rattle.block.proofs.Block.mode.Reads as mode
 use Rattle.block.proofs.Block.next.Kinds as next-kinds
@@ -31,11 +37,20 @@ none-once κs a x y s t p q = p ∙ sym q
 is-none-once : OneAnswer 0 is-none-kinds.ps is-none-kinds.r is-none.Post
 is-none-once κs a x y s t p q = p ∙ sym q
 
+zoom-x-once : OneAnswer 0 zoom-x-kinds.ps zoom-x-kinds.r zoom-x.Post
+zoom-x-once κs a x y s t p q = p ∙ sym q
+
+zoom-y-once : OneAnswer 0 zoom-y-kinds.ps zoom-y-kinds.r zoom-y.Post
+zoom-y-once κs a x y s t p q = p ∙ sym q
+
 columns-once : OneAnswer 0 columns-kinds.ps columns-kinds.r columns.Post
 columns-once κs a x y s t p q = p ∙ sym q
 
 rows-once : OneAnswer 0 rows-kinds.ps rows-kinds.r rows.Post
 rows-once κs a x y s t p q = p ∙ sym q
+
+pattern-width-once : OneAnswer 0 pattern-width-kinds.ps pattern-width-kinds.r pattern-width.Post
+pattern-width-once κs a x y s t p q = p ∙ sym q
 
 mode-once : OneAnswer 0 mode-kinds.ps mode-kinds.r mode.Post
 mode-once κs a x y s t p q = p ∙ sym q

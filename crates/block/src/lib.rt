@@ -134,13 +134,15 @@ impl Block {
         self.width0 as u16 + 256 * (self.width1 as u16 % 2) + 1
     }
 
-    fn zoom_x(self) -> u16
+    // How many destination columns show one source column.
+    pub fn zoom_x(self) -> u16
         ensures { λ r. ⌜ r ≡ zoomX self ⌝ }
     {
         self.zoom as u16 % 8 + 1
     }
 
-    fn zoom_y(self) -> u16
+    // How many destination rows show one source row.
+    pub fn zoom_y(self) -> u16
         ensures { λ r. ⌜ r ≡ zoomY self ⌝ }
     {
         self.zoom as u16 / 16 % 8 + 1
@@ -161,7 +163,7 @@ impl Block {
     }
 
     // The source columns before the pattern begins again: the pattern's width when IN_USE, else the block's.
-    fn pattern_width(self) -> u16
+    pub fn pattern_width(self) -> u16
         ensures { λ r. ⌜ r ≡ patternOf self ⌝ }
     {
         let pattern = self.pattern;

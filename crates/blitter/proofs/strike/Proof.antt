@@ -1,4 +1,5 @@
 -- `blitter::strike` meets its contract: one law takes what the parts give. Assumes nothing.
+use Rattle.blitter.proofs.Following.{source-is}
 use Rattle.blitter.proofs.Single.{stroke-small, strike-is}
 use Rattle.laws.proofs.Choice.{bool-small}
 use native.Mathlib.Omega.{arith}
@@ -27,8 +28,8 @@ put-requires c κs = search needs
 reads-requires : tie.Need-reads-requires
 reads-requires c κs = search needs
 
-cast-t9 : tie.Need-cast-t9
-cast-t9 c = search needs
+cast-t11 : tie.Need-cast-t11
+cast-t11 c = search needs
 
 add-t12 : tie.Need-add-t12
 add-t12 c = record { fits = omega (arith, stroke-small _ _ _ _ _ _ (c .before .before .before .before .before .before .stroke-of .ensures), bool-small (c .before .reads .result)) }
@@ -39,8 +40,10 @@ same-length c = search needs
 returns : tie.Need-returns
 returns c =
     let s = c .before .before .before .before .before .before in
-    let a = s .before .before .before .before .before .before .before .before .before .before .args in
-    strike-is (a .block) (a .mem .now) (a .row) (a .col) (a .code) _ _ _ _ (s .stroke-of .result) (c .before .reads .result)
+    let e = s .before .before .before .before .before .before .before .before .before .before in
+    let a = e .args in
+    strike-is (a .block) (a .mem .now) (a .place .row) (a .place .col) (a .code) _ _ _ _ _ (s .stroke-of .result) (c .before .reads .result)
+    (source-is (a .block) (a .place) (e .pre .1))
     (s .before .before .before .before .before .before .before .raw-source .ensures)
     (s .before .before .before .before .destination .ensures)
     (s .before .before .before .mode .ensures)
@@ -59,7 +62,7 @@ strike-spec =
     stroke-of-requires
     put-requires
     reads-requires
-    cast-t9
+    cast-t11
     add-t12
     same-length
     returns)
