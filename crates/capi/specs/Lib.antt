@@ -1,0 +1,2 @@
+-- The calls for C and Rust.
+pub mod Calls

@@ -1,0 +1,287 @@
+// What C and Rust call: include/deskboard.h says each call in words.
+ghost use mathlib.Core.Path.{_≡_};
+ghost use lib.ListN.{length};
+ghost use Rattle.refusal.specs.Sheet.{outcomeTold, kept};
+ghost use Rattle.vram.specs.Install.{installAnswer, installMemory};
+ghost use Rattle.blitter.specs.Run.{runTold};
+ghost use Rattle.words.specs.Words.{laid};
+ghost use Rattle.words.specs.Board.{boardWords};
+ghost use Rattle.capi.specs.Calls.{
+  numberTold,
+  reported,
+  countWords,
+  newCall,
+  newWords,
+  writeCall,
+  writeWords,
+  readCall,
+  readReport,
+  resetCall,
+  resetWords,
+  tickCall,
+  tickWords,
+  tickBytes,
+  tickReport,
+  runCall,
+  runWords,
+  runBytes,
+  runReport,
+  startCall,
+  startWords,
+  lineCall,
+  lineWords,
+  lineSettings,
+  compileCall,
+  compileBytes,
+  compileReport,
+};
+use blitter::RunReport;
+use board::Board;
+use board::Changed;
+use board::Ran;
+use board::ReadReport;
+use frame::Frame;
+use frame::FrameStart;
+use frame::LineReport;
+use plan::Compiled;
+use refusal::Outcome;
+
+// The words of a board after a write or a reset that was done, and the number of the call.
+fn settle(board: &mut [u32], changed: Changed) -> u32
+    ensures number { λ r. ⌜ r ≡ numberTold (outcomeTold (changed .report)) ⌝ }
+    ensures board { λ _. ⌜ now (board .exit) ≡ kept (outcomeTold (changed .report)) (now (board .entry)) (laid (boardWords (changed .board)) (now (board .entry))) ⌝ }
+{
+    let report = changed.report;
+    match report {
+        Outcome::Done => {
+            words::put_board(board, changed.board);
+            0
+        }
+        Outcome::Refused(why) => why.number() as u32,
+    }
+}
+
+// The same of a tick or a run, with its counts.
+fn settle_run(board: &mut [u32], report: &mut [u32], ran: Ran) -> u32
+    ensures number { λ r. ⌜ r ≡ numberTold (runTold (ran .report)) ⌝ }
+    ensures board { λ _. ⌜ now (board .exit) ≡ kept (runTold (ran .report)) (now (board .entry)) (laid (boardWords (ran .board)) (now (board .entry))) ⌝ }
+    ensures report { λ _. ⌜ now (report .exit) ≡ reported countWords (runTold (ran .report)) (now (report .entry)) ⌝ }
+{
+    let told = ran.report;
+    match told {
+        RunReport::Ran { ticks, accesses } => {
+            words::put_board(board, ran.board);
+            words::lay(report, &[ticks, accesses]);
+            0
+        }
+        RunReport::Refused(why) => why.number() as u32,
+    }
+}
+
+#[no_mangle]
+pub extern "C" fn deskboard_new(board: &mut [u32]) -> u32
+    ensures number { λ r. ⌜ r ≡ numberTold (newCall (now (board .entry))) ⌝ }
+    ensures board { λ _. ⌜ now (board .exit) ≡ newWords (now (board .entry)) ⌝ }
+{
+    if board.len() < 35 {
+        return 255;
+    }
+    let b = Board::new();
+    words::put_board(board, b);
+    0
+}
+
+#[no_mangle]
+pub extern "C" fn deskboard_write(board: &mut [u32], offset: u32, value: u8) -> u32
+    ensures number { λ r. ⌜ r ≡ numberTold (writeCall (now (board .entry)) offset) ⌝ }
+    ensures board { λ _. ⌜ now (board .exit) ≡ writeWords (now (board .entry)) offset value ⌝ }
+{
+    if board.len() < 35 {
+        return 255;
+    }
+    if !words::board_fits(board) {
+        return 15;
+    }
+    let b = words::board_of(board);
+    let changed = b.write(offset, value);
+    settle(board, changed)
+}
+
+#[no_mangle]
+pub extern "C" fn deskboard_read(board: &[u32], offset: u32, report: &mut [u32]) -> u32
+    ensures number { λ r. ⌜ r ≡ numberTold (readCall (now (board .entry)) offset (now (report .entry))) ⌝ }
+    ensures report { λ _. ⌜ now (report .exit) ≡ readReport (now (board .entry)) offset (now (report .entry)) ⌝ }
+{
+    if board.len() < 35 {
+        return 255;
+    }
+    if report.len() < 1 {
+        return 255;
+    }
+    if !words::board_fits(board) {
+        return 15;
+    }
+    let b = words::board_of(board);
+    let told = b.read(offset);
+    match told {
+        ReadReport::Byte(value) => {
+            words::lay(report, &[value as u32]);
+            0
+        }
+        ReadReport::Refused(why) => why.number() as u32,
+    }
+}
+
+#[no_mangle]
+pub extern "C" fn deskboard_reset(board: &mut [u32]) -> u32
+    ensures number { λ r. ⌜ r ≡ numberTold (resetCall (now (board .entry))) ⌝ }
+    ensures board { λ _. ⌜ now (board .exit) ≡ resetWords (now (board .entry)) ⌝ }
+{
+    if board.len() < 35 {
+        return 255;
+    }
+    if !words::board_fits(board) {
+        return 15;
+    }
+    let b = words::board_of(board);
+    let changed = b.reset();
+    settle(board, changed)
+}
+
+#[no_mangle]
+pub extern "C" fn deskboard_tick(board: &mut [u32], mem: &mut [u8], report: &mut [u32]) -> u32
+    ensures number { λ r. ⌜ r ≡ numberTold (tickCall (now (board .entry)) (now (mem .entry)) (now (report .entry))) ⌝ }
+    ensures board { λ _. ⌜ now (board .exit) ≡ tickWords (now (board .entry)) (now (mem .entry)) (now (report .entry)) ⌝ }
+    ensures memory { λ _. ⌜ now (mem .exit) ≡ tickBytes (now (board .entry)) (now (mem .entry)) (now (report .entry)) ⌝ }
+    ensures report { λ _. ⌜ now (report .exit) ≡ tickReport (now (board .entry)) (now (mem .entry)) (now (report .entry)) ⌝ }
+{
+    if board.len() < 35 {
+        return 255;
+    }
+    if report.len() < 2 {
+        return 255;
+    }
+    if !vram::good_length(mem.len()) {
+        return 1;
+    }
+    if !words::board_fits(board) {
+        return 15;
+    }
+    let b = words::board_of(board);
+    let ran = b.tick(mem);
+    settle_run(board, report, ran)
+}
+
+#[no_mangle]
+pub extern "C" fn deskboard_run(board: &mut [u32], mem: &mut [u8], budget: u32, report: &mut [u32]) -> u32
+    ensures number { λ r. ⌜ r ≡ numberTold (runCall (now (board .entry)) (now (mem .entry)) budget (now (report .entry))) ⌝ }
+    ensures board { λ _. ⌜ now (board .exit) ≡ runWords (now (board .entry)) (now (mem .entry)) budget (now (report .entry)) ⌝ }
+    ensures memory { λ _. ⌜ now (mem .exit) ≡ runBytes (now (board .entry)) (now (mem .entry)) budget (now (report .entry)) ⌝ }
+    ensures report { λ _. ⌜ now (report .exit) ≡ runReport (now (board .entry)) (now (mem .entry)) budget (now (report .entry)) ⌝ }
+{
+    if board.len() < 35 {
+        return 255;
+    }
+    if report.len() < 2 {
+        return 255;
+    }
+    if !vram::good_length(mem.len()) {
+        return 1;
+    }
+    if !words::board_fits(board) {
+        return 15;
+    }
+    let b = words::board_of(board);
+    let ran = b.run(mem, budget);
+    settle_run(board, report, ran)
+}
+
+#[no_mangle]
+pub extern "C" fn deskboard_start(board: &[u32], frame: &mut [u32]) -> u32
+    ensures number { λ r. ⌜ r ≡ numberTold (startCall (now (board .entry)) (now (frame .entry))) ⌝ }
+    ensures frame { λ _. ⌜ now (frame .exit) ≡ startWords (now (board .entry)) (now (frame .entry)) ⌝ }
+{
+    if board.len() < 35 {
+        return 255;
+    }
+    if frame.len() < 24 {
+        return 255;
+    }
+    if !words::board_fits(board) {
+        return 15;
+    }
+    let b = words::board_of(board);
+    let told = Frame::start(b);
+    match told {
+        FrameStart::Started(f) => {
+            words::put_frame(frame, f);
+            0
+        }
+        FrameStart::Refused(why) => why.number() as u32,
+    }
+}
+
+#[no_mangle]
+pub extern "C" fn deskboard_next_line(frame: &mut [u32], mem: &[u8], settings: &mut [u32]) -> u32
+    ensures number { λ r. ⌜ r ≡ numberTold (lineCall (now (frame .entry)) (now (mem .entry)) (now (settings .entry))) ⌝ }
+    ensures frame { λ _. ⌜ now (frame .exit) ≡ lineWords (now (frame .entry)) (now (mem .entry)) (now (settings .entry)) ⌝ }
+    ensures settings { λ _. ⌜ now (settings .exit) ≡ lineSettings (now (frame .entry)) (now (mem .entry)) (now (settings .entry)) ⌝ }
+{
+    if frame.len() < 24 {
+        return 255;
+    }
+    if settings.len() < 19 {
+        return 255;
+    }
+    if !vram::good_length(mem.len()) {
+        return 1;
+    }
+    if !words::frame_fits(frame) {
+        return 15;
+    }
+    let f = words::frame_of(frame);
+    let next = f.next_line(mem);
+    let told = next.report;
+    match told {
+        LineReport::Line(s) => {
+            words::put_frame(frame, next.frame);
+            words::put_settings(settings, s);
+            0
+        }
+        LineReport::Refused(why) => why.number() as u32,
+    }
+}
+
+#[no_mangle]
+pub extern "C" fn deskboard_compile(plan: &[u8], out: &mut [u8], report: &mut [u32]) -> u32
+    ensures number { λ r. ⌜ r ≡ numberTold (compileCall (now (plan .entry)) (length (now (out .entry))) (now (report .entry))) ⌝ }
+    ensures output { λ _. ⌜ now (out .exit) ≡ compileBytes (now (plan .entry)) (now (out .entry)) (now (report .entry)) ⌝ }
+    ensures report { λ _. ⌜ now (report .exit) ≡ compileReport (now (plan .entry)) (length (now (out .entry))) (now (report .entry)) ⌝ }
+{
+    if report.len() < 1 {
+        return 255;
+    }
+    let told = plan::compile(plan, out);
+    match told {
+        Compiled::Done(bytes) => {
+            words::lay(report, &[bytes as u32]);
+            0
+        }
+        Compiled::Refused(why, item) => {
+            words::lay(report, &[item]);
+            why.number() as u32
+        }
+    }
+}
+
+#[no_mangle]
+pub extern "C" fn deskboard_install(mem: &mut [u8], list: &[u8], address: u32) -> u32
+    ensures number { λ r. ⌜ r ≡ numberTold (installAnswer (now (mem .entry)) (now (list .entry)) address) ⌝ }
+    ensures memory { λ _. ⌜ now (mem .exit) ≡ installMemory (now (mem .entry)) (now (list .entry)) address ⌝ }
+{
+    let told = vram::install(mem, list, address);
+    match told {
+        Outcome::Done => 0,
+        Outcome::Refused(why) => why.number() as u32,
+    }
+}

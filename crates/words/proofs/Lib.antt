@@ -1,0 +1,4 @@
+-- Laws of words.
+pub mod Within
+mod Laid
+pub mod Crossing
