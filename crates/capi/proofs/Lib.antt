@@ -1,1 +1,4 @@
 -- Laws of the calls.
+mod Told
+mod Passed
+mod Once

@@ -173,7 +173,12 @@ pub extern "C" fn deskboard_tick(board: &mut [u32], mem: &mut [u8], report: &mut
 }
 
 #[no_mangle]
-pub extern "C" fn deskboard_run(board: &mut [u32], mem: &mut [u8], budget: u32, report: &mut [u32]) -> u32
+pub extern "C" fn deskboard_run(
+    board: &mut [u32],
+    mem: &mut [u8],
+    budget: u32,
+    report: &mut [u32],
+) -> u32
     ensures number { λ r. ⌜ r ≡ numberTold (runCall (now (board .entry)) (now (mem .entry)) budget (now (report .entry))) ⌝ }
     ensures board { λ _. ⌜ now (board .exit) ≡ runWords (now (board .entry)) (now (mem .entry)) budget (now (report .entry)) ⌝ }
     ensures memory { λ _. ⌜ now (mem .exit) ≡ runBytes (now (board .entry)) (now (mem .entry)) budget (now (report .entry)) ⌝ }

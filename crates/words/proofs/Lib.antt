@@ -2,3 +2,4 @@
 pub mod Within
 mod Laid
 pub mod Crossing
+mod Once

@@ -9,9 +9,6 @@ use Rattle.words.specs.Words.{within}
 use Rattle.words.proofs.Within.{within-turn, within-end}
 use Rattle.words.proofs.all_within.Statement.{statement}
 use Rattle.words.proofs.all_within.Tie as tie
-use Rattle.words.proofs.all_within.Reads as reads
-use Rattle.words.proofs.all_within.Lts as lts
-use Rattle.words.proofs.word.Reads as word-reads
 
 abbrev Inv-loop : tie.InvT-loop
 Inv-loop words most all₀ i₀ all i = (all && within (drop i most) words i ≡ within most words 0) × (i ≤ length most)
@@ -19,35 +16,27 @@ Inv-loop words most all₀ i₀ all i = (all && within (drop i most) words i ≡
 abbrev μ-loop : tie.MeasureT-loop
 μ-loop words most all₀ i₀ all i = length most - i
 
--- src/lib.rt:53:5
 loop-holds : tie.Need-loop-holds Inv-loop μ-loop
 loop-holds c = (refl, omega arith)
 
--- src/lib.rt:54:22
 word-requires : tie.Need-word-requires Inv-loop μ-loop
 word-requires c κs = search needs
 
--- src/lib.rt:54:40
 mul-all : tie.Need-mul-all Inv-loop μ-loop
 mul-all c = omega arith
 
--- src/lib.rt:54:40
 shared-slice-read-all : tie.Need-shared-slice-read-all Inv-loop μ-loop
 shared-slice-read-all c = omega arith
 
--- src/lib.rt:55:9
 add-i : tie.Need-add-i Inv-loop μ-loop
 add-i c = omega arith
 
--- src/lib.rt:53:5
 loop-less : tie.Need-loop-less Inv-loop μ-loop
 loop-less c = omega arith
 
--- src/lib.rt:53:5
 loop-again : tie.Need-loop-again Inv-loop μ-loop
 loop-again c = let l = c .before .before .before .loop in (within-turn (l .all) _ _ (l .i) _ (c .before .word .ensures) (c .before .before .loop-test .taken) (l .inv .0), omega arith)
 
--- src/lib.rt:48:1
 returns : tie.Need-returns Inv-loop μ-loop
 returns c = let l = c .before .loop in within-end (l .all) _ _ (l .i) (c .loop-test .left) (l .inv .0)
 

@@ -3,50 +3,34 @@ use Rattle.words.specs.Board.{blitterOf}
 use borrow.Author.Needs.{needs}
 use Rattle.words.proofs.blitter_of.Statement.{statement}
 use Rattle.words.proofs.blitter_of.Tie as tie
-use Rattle.words.proofs.blitter_of.Reads as reads
-use Rattle.words.proofs.blitter_of.Lts as lts
-use Rattle.words.proofs.block_of.Reads as block-of-reads
-use Rattle.words.proofs.byte.Reads as byte-reads
-use Rattle.words.proofs.half.Reads as half-reads
-use Rattle.words.proofs.switch.Reads as switch-reads
-use Rattle.words.proofs.word.Reads as word-reads
 
--- src/lib.rt:134:9
 block-of-requires : tie.Need-block-of-requires
 block-of-requires c κs = search needs
 
--- src/lib.rt:136:15
 switch-requires : tie.Need-switch-requires
 switch-requires c κs = search needs
 
--- src/lib.rt:137:15
 switch-requires-2 : tie.Need-switch-requires-2
 switch-requires-2 c κs = search needs
 
--- src/lib.rt:138:15
 word-requires : tie.Need-word-requires
 word-requires c κs = search needs
 
--- src/lib.rt:139:16
 byte-requires : tie.Need-byte-requires
 byte-requires c κs = search needs
 
--- src/lib.rt:140:15
 byte-requires-2 : tie.Need-byte-requires-2
 byte-requires-2 c κs = search needs
 
--- src/lib.rt:142:14
 half-requires : tie.Need-half-requires
 half-requires c κs = search needs
 
--- src/lib.rt:143:14
 half-requires-2 : tie.Need-half-requires-2
 half-requires-2 c κs = search needs
 
--- src/lib.rt:131:1
 returns : tie.Need-returns
 unfolding blitterOf
-returns c = 
+returns c =
     λ i.
     record {
       block = c .before .before .before .before .before .before .before .block-of .ensures i;

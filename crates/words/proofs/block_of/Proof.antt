@@ -3,59 +3,43 @@ use Rattle.words.specs.Board.{blockOf}
 use borrow.Author.Needs.{needs}
 use Rattle.words.proofs.block_of.Statement.{statement}
 use Rattle.words.proofs.block_of.Tie as tie
-use Rattle.words.proofs.block_of.Reads as reads
-use Rattle.words.proofs.block_of.Lts as lts
-use Rattle.words.proofs.byte.Reads as byte-reads
-use Rattle.words.proofs.side_of.Reads as side-of-reads
 
--- src/lib.rt:114:9
 side-of-requires : tie.Need-side-of-requires
 side-of-requires c κs = search needs
 
--- src/lib.rt:115:9
 side-of-requires-2 : tie.Need-side-of-requires-2
 side-of-requires-2 c κs = search needs
 
--- src/lib.rt:119:17
 byte-requires : tie.Need-byte-requires
 byte-requires c κs = search needs
 
--- src/lib.rt:120:17
 byte-requires-2 : tie.Need-byte-requires-2
 byte-requires-2 c κs = search needs
 
--- src/lib.rt:121:17
 byte-requires-3 : tie.Need-byte-requires-3
 byte-requires-3 c κs = search needs
 
--- src/lib.rt:122:18
 byte-requires-4 : tie.Need-byte-requires-4
 byte-requires-4 c κs = search needs
 
--- src/lib.rt:123:18
 byte-requires-5 : tie.Need-byte-requires-5
 byte-requires-5 c κs = search needs
 
--- src/lib.rt:124:18
 byte-requires-6 : tie.Need-byte-requires-6
 byte-requires-6 c κs = search needs
 
--- src/lib.rt:125:15
 byte-requires-7 : tie.Need-byte-requires-7
 byte-requires-7 c κs = search needs
 
--- src/lib.rt:126:18
 byte-requires-8 : tie.Need-byte-requires-8
 byte-requires-8 c κs = search needs
 
--- src/lib.rt:127:18
 byte-requires-9 : tie.Need-byte-requires-9
 byte-requires-9 c κs = search needs
 
--- src/lib.rt:111:1
 returns : tie.Need-returns
 unfolding blockOf
-returns c = 
+returns c =
     λ i.
     record {
       source = c .before .before .before .before .before .before .before .before .before .before .side-of .ensures i;

@@ -7,8 +7,6 @@ use lib.Seq.{paste}
 use Rattle.words.proofs.Laid.{copy-length, copy-next, copy-end}
 use Rattle.words.proofs.copy.Statement.{statement}
 use Rattle.words.proofs.copy.Tie as tie
-use Rattle.words.proofs.copy.Reads as reads
-use Rattle.words.proofs.copy.Lts as lts
 
 abbrev Inv-loop : tie.InvT-loop
 Inv-loop words₀ new i₀ words i = (words ≡ paste words₀ 0 new i) × (i ≤ length new)
@@ -16,43 +14,33 @@ Inv-loop words₀ new i₀ words i = (words ≡ paste words₀ 0 new i) × (i �
 abbrev μ-loop : tie.MeasureT-loop
 μ-loop words₀ new i₀ words i = length new - i
 
--- src/lib.rt:66:5
 loop-holds : tie.Need-loop-holds Inv-loop μ-loop
 loop-holds c = (refl, omega arith)
 
--- src/lib.rt:67:20
 mul-words : tie.Need-mul-words Inv-loop μ-loop
 mul-words c = omega arith
 
--- src/lib.rt:67:20
 shared-slice-read-words : tie.Need-shared-slice-read-words Inv-loop μ-loop
 shared-slice-read-words c = omega arith
 
--- src/lib.rt:67:9
 mul-words-2 : tie.Need-mul-words-2 Inv-loop μ-loop
 mul-words-2 c = omega arith
 
--- src/lib.rt:67:9
 slice-write-words : tie.Need-slice-write-words Inv-loop μ-loop
 slice-write-words c = let l = c .before .before .loop in let b = c .before .before .before in let e = copy-length (l .words) _ (b .args .new .now) (l .i) (l .inv .0) (b .pre) (l .inv .1) in omega arith
 
--- src/lib.rt:68:9
 add-i : tie.Need-add-i Inv-loop μ-loop
 add-i c = omega arith
 
--- src/lib.rt:66:5
 loop-less : tie.Need-loop-less Inv-loop μ-loop
 loop-less c = omega arith
 
--- src/lib.rt:66:5
 loop-again : tie.Need-loop-again Inv-loop μ-loop
 loop-again c = let l = c .before .before .loop in let b = c .before .before .before in (copy-next (l .words) _ (b .args .new .now) (l .i) (l .inv .0) (b .pre) (c .before .loop-test .taken), omega arith)
 
--- src/lib.rt:61:1
 same-length : tie.Need-same-length Inv-loop μ-loop
 same-length c = let l = c .before .loop in copy-length (l .words) _ _ (l .i) (l .inv .0) (c .before .before .pre) (l .inv .1)
 
--- src/lib.rt:61:1
 returns : tie.Need-returns Inv-loop μ-loop
 returns c = let l = c .before .loop in copy-end (l .words) _ _ (l .i) (l .inv .0) (c .before .before .pre) (l .inv .1) (c .loop-test .left)
 

@@ -3,23 +3,16 @@ use borrow.Author.Tests.{le-leb, lt-leb}
 use borrow.Author.Needs.{needs}
 use Rattle.words.proofs.lay.Statement.{statement}
 use Rattle.words.proofs.lay.Tie as tie
-use Rattle.words.proofs.lay.Reads as reads
-use Rattle.words.proofs.lay.Lts as lts
-use Rattle.words.proofs.copy.Reads as copy-reads
 
--- src/lib.rt:77:9
 returns : tie.Need-returns
 returns c = simp (lt-leb _ _ (c .if1 .taken))
 
--- src/lib.rt:79:5
 copy-requires : tie.Need-copy-requires
 copy-requires c κs = search needs
 
--- src/lib.rt:73:1
 same-length : tie.Need-same-length
 same-length c = search needs
 
--- src/lib.rt:73:1
 returns-2 : tie.Need-returns-2
 returns-2 c = simp (le-leb _ _ (c .before .before .before .before .if1 .left)) (c .before .before .copy .ensures)
 

@@ -3,30 +3,22 @@ use Rattle.words.specs.Frame.{lookOf}
 use borrow.Author.Needs.{needs}
 use Rattle.words.proofs.look_of.Statement.{statement}
 use Rattle.words.proofs.look_of.Tie as tie
-use Rattle.words.proofs.look_of.Reads as reads
-use Rattle.words.proofs.look_of.Lts as lts
-use Rattle.words.proofs.byte.Reads as byte-reads
 
--- src/lib.rt:250:16
 byte-requires : tie.Need-byte-requires
 byte-requires c κs = search needs
 
--- src/lib.rt:251:18
 byte-requires-2 : tie.Need-byte-requires-2
 byte-requires-2 c κs = search needs
 
--- src/lib.rt:252:20
 byte-requires-3 : tie.Need-byte-requires-3
 byte-requires-3 c κs = search needs
 
--- src/lib.rt:253:19
 byte-requires-4 : tie.Need-byte-requires-4
 byte-requires-4 c κs = search needs
 
--- src/lib.rt:246:1
 returns : tie.Need-returns
 unfolding lookOf
-returns c = 
+returns c =
     λ i.
     record {
       width = c .before .before .before .byte .ensures i;

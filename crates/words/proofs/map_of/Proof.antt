@@ -3,49 +3,34 @@ use Rattle.words.specs.Frame.{mapOf}
 use borrow.Author.Needs.{needs}
 use Rattle.words.proofs.map_of.Statement.{statement}
 use Rattle.words.proofs.map_of.Tie as tie
-use Rattle.words.proofs.map_of.Reads as reads
-use Rattle.words.proofs.map_of.Lts as lts
-use Rattle.words.proofs.byte.Reads as byte-reads
-use Rattle.words.proofs.half.Reads as half-reads
-use Rattle.words.proofs.switch.Reads as switch-reads
-use Rattle.words.proofs.word.Reads as word-reads
 
--- src/lib.rt:235:13
 switch-requires : tie.Need-switch-requires
 switch-requires c κs = search needs
 
--- src/lib.rt:236:18
 word-requires : tie.Need-word-requires
 word-requires c κs = search needs
 
--- src/lib.rt:237:15
 half-requires : tie.Need-half-requires
 half-requires c κs = search needs
 
--- src/lib.rt:238:18
 byte-requires : tie.Need-byte-requires
 byte-requires c κs = search needs
 
--- src/lib.rt:239:18
 byte-requires-2 : tie.Need-byte-requires-2
 byte-requires-2 c κs = search needs
 
--- src/lib.rt:240:16
 byte-requires-3 : tie.Need-byte-requires-3
 byte-requires-3 c κs = search needs
 
--- src/lib.rt:241:17
 byte-requires-4 : tie.Need-byte-requires-4
 byte-requires-4 c κs = search needs
 
--- src/lib.rt:242:18
 byte-requires-5 : tie.Need-byte-requires-5
 byte-requires-5 c κs = search needs
 
--- src/lib.rt:231:1
 returns : tie.Need-returns
 unfolding mapOf
-returns c = 
+returns c =
     λ i.
     record {
       on = c .before .before .before .before .before .before .before .switch .ensures i;

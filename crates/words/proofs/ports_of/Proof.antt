@@ -3,43 +3,31 @@ use Rattle.words.specs.Board.{portsOf}
 use borrow.Author.Needs.{needs}
 use Rattle.words.proofs.ports_of.Statement.{statement}
 use Rattle.words.proofs.ports_of.Tie as tie
-use Rattle.words.proofs.ports_of.Reads as reads
-use Rattle.words.proofs.ports_of.Lts as lts
-use Rattle.words.proofs.byte.Reads as byte-reads
-use Rattle.words.proofs.word.Reads as word-reads
 
--- src/lib.rt:86:16
 byte-requires : tie.Need-byte-requires
 byte-requires c κs = search needs
 
--- src/lib.rt:87:17
 word-requires : tie.Need-word-requires
 word-requires c κs = search needs
 
--- src/lib.rt:88:16
 word-requires-2 : tie.Need-word-requires-2
 word-requires-2 c κs = search needs
 
--- src/lib.rt:89:13
 byte-requires-2 : tie.Need-byte-requires-2
 byte-requires-2 c κs = search needs
 
--- src/lib.rt:90:13
 byte-requires-3 : tie.Need-byte-requires-3
 byte-requires-3 c κs = search needs
 
--- src/lib.rt:91:13
 byte-requires-4 : tie.Need-byte-requires-4
 byte-requires-4 c κs = search needs
 
--- src/lib.rt:92:13
 byte-requires-5 : tie.Need-byte-requires-5
 byte-requires-5 c κs = search needs
 
--- src/lib.rt:82:1
 returns : tie.Need-returns
 unfolding portsOf
-returns c = 
+returns c =
     λ i.
     record {
       video = c .before .before .before .before .before .before .byte .ensures i;

@@ -6,151 +6,112 @@ use Rattle.words.specs.Board.{boardWords}
 use borrow.Author.Needs.{needs}
 use Rattle.words.proofs.put_board.Statement.{statement}
 use Rattle.words.proofs.put_board.Tie as tie
-use Rattle.words.proofs.put_board.Reads as reads
-use Rattle.words.proofs.put_board.Lts as lts
-use Rattle.words.proofs.lay.Reads as lay-reads
 
--- src/lib.rt:178:9
 cast-t9 : tie.Need-cast-t9
 cast-t9 c = search needs
 
--- src/lib.rt:181:9
 cast-t10 : tie.Need-cast-t10
 cast-t10 c = search needs
 
--- src/lib.rt:182:9
 cast-t11 : tie.Need-cast-t11
 cast-t11 c = search needs
 
--- src/lib.rt:183:9
 cast-t12 : tie.Need-cast-t12
 cast-t12 c = search needs
 
--- src/lib.rt:184:9
 cast-t13 : tie.Need-cast-t13
 cast-t13 c = search needs
 
--- src/lib.rt:185:9
 cast-t14 : tie.Need-cast-t14
 cast-t14 c = search needs
 
--- src/lib.rt:186:9
 cast-t15 : tie.Need-cast-t15
 cast-t15 c = search needs
 
--- src/lib.rt:188:9
 cast-t16 : tie.Need-cast-t16
 cast-t16 c = search needs
 
--- src/lib.rt:189:9
 cast-t17 : tie.Need-cast-t17
 cast-t17 c = search needs
 
--- src/lib.rt:190:9
 cast-t18 : tie.Need-cast-t18
 cast-t18 c = search needs
 
--- src/lib.rt:191:9
 cast-t19 : tie.Need-cast-t19
 cast-t19 c = search needs
 
--- src/lib.rt:192:9
 cast-t20 : tie.Need-cast-t20
 cast-t20 c = search needs
 
--- src/lib.rt:193:9
 cast-t21 : tie.Need-cast-t21
 cast-t21 c = search needs
 
--- src/lib.rt:194:9
 cast-t22 : tie.Need-cast-t22
 cast-t22 c = search needs
 
--- src/lib.rt:195:9
 cast-t23 : tie.Need-cast-t23
 cast-t23 c = search needs
 
--- src/lib.rt:196:9
 cast-t24 : tie.Need-cast-t24
 cast-t24 c = search needs
 
--- src/lib.rt:197:9
 cast-t25 : tie.Need-cast-t25
 cast-t25 c = search needs
 
--- src/lib.rt:198:9
 cast-t26 : tie.Need-cast-t26
 cast-t26 c = search needs
 
--- src/lib.rt:199:9
 cast-t27 : tie.Need-cast-t27
 cast-t27 c = search needs
 
--- src/lib.rt:200:9
 cast-t28 : tie.Need-cast-t28
 cast-t28 c = search needs
 
--- src/lib.rt:201:9
 cast-t29 : tie.Need-cast-t29
 cast-t29 c = search needs
 
--- src/lib.rt:202:9
 cast-t30 : tie.Need-cast-t30
 cast-t30 c = search needs
 
--- src/lib.rt:203:9
 cast-t31 : tie.Need-cast-t31
 cast-t31 c = search needs
 
--- src/lib.rt:204:9
 cast-t32 : tie.Need-cast-t32
 cast-t32 c = search needs
 
--- src/lib.rt:205:9
 cast-t33 : tie.Need-cast-t33
 cast-t33 c = search needs
 
--- src/lib.rt:206:9
 cast-t34 : tie.Need-cast-t34
 cast-t34 c = omega (arith, c .struct-known26 .given .1 .1 .1 .1 .1 .1)
 
--- src/lib.rt:207:9
 cast-t35 : tie.Need-cast-t35
 cast-t35 c = omega (arith, c .struct-known27 .given .1 .1 .1 .1 .1 .1 .1)
 
--- src/lib.rt:208:9
 cast-t36 : tie.Need-cast-t36
 cast-t36 c = omega (arith, c .struct-known28 .given .1 .1 .1 .1 .1 .1 .1 .1)
 
--- src/lib.rt:209:9
 cast-t37 : tie.Need-cast-t37
 cast-t37 c = omega (arith, c .struct-known29 .given .1 .1 .1 .1 .1 .1 .1 .1 .1)
 
--- src/lib.rt:210:9
 cast-t38 : tie.Need-cast-t38
 cast-t38 c = omega (arith, c .struct-known30 .given .1 .1 .1 .1 .1 .1 .1 .1 .1 .1)
 
--- src/lib.rt:211:9
 cast-t39 : tie.Need-cast-t39
 cast-t39 c = omega (arith, c .struct-known31 .given .1 .1 .1 .1 .1 .1)
 
--- src/lib.rt:212:9
 cast-t40 : tie.Need-cast-t40
 cast-t40 c = omega (arith, c .struct-known32 .given .1 .1 .1 .1 .1 .1 .1)
 
--- src/lib.rt:214:16
 slice-aggregate-lay : tie.Need-slice-aggregate-lay
 slice-aggregate-lay c = search needs
 
--- src/lib.rt:214:5
 lay-requires : tie.Need-lay-requires
 lay-requires c κs = search needs
 
--- src/lib.rt:169:1
 same-length : tie.Need-same-length
 same-length c = search needs
 
--- src/lib.rt:169:1
 returns : tie.Need-returns
 unfolding boardWords
 returns c = c .before .before .lay .ensures ∙ simp bool-byte

@@ -3,28 +3,19 @@ use Rattle.words.specs.Frame.{settingsOf}
 use borrow.Author.Needs.{needs}
 use Rattle.words.proofs.settings_of.Statement.{statement}
 use Rattle.words.proofs.settings_of.Tie as tie
-use Rattle.words.proofs.settings_of.Reads as reads
-use Rattle.words.proofs.settings_of.Lts as lts
-use Rattle.words.proofs.look_of.Reads as look-of-reads
-use Rattle.words.proofs.map_of.Reads as map-of-reads
-use Rattle.words.proofs.overlay_of.Reads as overlay-of-reads
 
--- src/lib.rt:260:9
 overlay-of-requires : tie.Need-overlay-of-requires
 overlay-of-requires c κs = search needs
 
--- src/lib.rt:261:9
 map-of-requires : tie.Need-map-of-requires
 map-of-requires c κs = search needs
 
--- src/lib.rt:262:9
 look-of-requires : tie.Need-look-of-requires
 look-of-requires c κs = search needs
 
--- src/lib.rt:257:1
 returns : tie.Need-returns
 unfolding settingsOf
-returns c = 
+returns c =
     λ i.
     record {
       overlay = c .before .before .overlay-of .ensures i;

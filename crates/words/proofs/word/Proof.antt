@@ -5,22 +5,16 @@ use lib.ListN.{List·getD-eq-default}
 use borrow.Author.Needs.{needs}
 use Rattle.words.proofs.word.Statement.{statement}
 use Rattle.words.proofs.word.Tie as tie
-use Rattle.words.proofs.word.Reads as reads
-use Rattle.words.proofs.word.Lts as lts
 
--- src/lib.rt:24:16
 mul-result : tie.Need-mul-result
 mul-result c = search needs
 
--- src/lib.rt:24:16
 shared-slice-read-result : tie.Need-shared-slice-read-result
 shared-slice-read-result c = search needs
 
--- src/lib.rt:24:9
 returns : tie.Need-returns
 returns c = search needs
 
--- src/lib.rt:20:1
 returns-2 : tie.Need-returns-2
 returns-2 c = sym (List·getD-eq-default (c .before .args .words .now) 0 (omega arith))
 

@@ -1,0 +1,48 @@
+-- `capi::deskboard_install` meets its contract. Assumes nothing.
+use mathlib.Core.Path.{sym, ap, _∙_}
+use Rattle.refusal.specs.Sheet.{outcomeTold}
+use Rattle.capi.specs.Calls.{numberTold}
+use borrow.Author.Needs.{needs}
+use Rattle.capi.proofs.deskboard_install.Statement.{statement}
+use Rattle.capi.proofs.deskboard_install.Tie as tie
+
+install-requires : tie.Need-install-requires
+install-requires c κs = search needs
+
+enum-told : tie.Need-enum-told
+enum-told c = search needs
+
+enum-known-told : tie.Need-enum-known-told
+enum-known-told c = search needs
+
+number-requires : tie.Need-number-requires
+number-requires c κs = search needs
+
+cast-result : tie.Need-cast-result
+cast-result c = search needs
+
+same-length : tie.Need-same-length
+same-length c = search needs
+
+returns : tie.Need-returns
+returns c = (ap numberTold (ap outcomeTold (sym (c .enum-told .given .1)) ∙ c .before .before .before .before .install .ensures .0), c .before .before .before .before .install .ensures .1)
+
+same-length-2 : tie.Need-same-length-2
+same-length-2 c = search needs
+
+returns-2 : tie.Need-returns-2
+returns-2 c = (c .number .ensures ∙ ap numberTold (ap outcomeTold (sym (c .before .before .told .given .1)) ∙ c .before .before .before .before .before .before .install .ensures .0), c .before .before .before .before .before .before .install .ensures .1)
+
+pub deskboard-install-spec : {M : Type 1} → statement M
+deskboard-install-spec =
+    tie.close
+    (tie.spec
+    install-requires
+    enum-told
+    enum-known-told
+    number-requires
+    cast-result
+    same-length
+    returns
+    same-length-2
+    returns-2)

@@ -1,0 +1,53 @@
+-- `capi::deskboard_reset` meets its contract. Assumes nothing.
+use mathlib.Core.Path.{refl, sym, _∙_}
+use borrow.Author.Tests.{lt-leb, le-leb, not-true, not-false}
+use Rattle.capi.specs.Calls.{resetCall}
+use Rattle.capi.proofs.Passed.{reset-done}
+use borrow.Author.Needs.{needs}
+use Rattle.capi.proofs.deskboard_reset.Statement.{statement}
+use Rattle.capi.proofs.deskboard_reset.Tie as tie
+
+returns : tie.Need-returns
+unfolding resetCall
+returns c = simp (lt-leb _ _ (c .if1 .taken)) (refl, refl)
+
+board-fits-requires : tie.Need-board-fits-requires
+board-fits-requires c κs = search needs
+
+same-length : tie.Need-same-length
+same-length c = search needs
+
+returns-2 : tie.Need-returns-2
+unfolding resetCall
+returns-2 c = simp (le-leb _ _ (c .before .before .before .if1 .left), sym (c .before .board-fits .ensures) ∙ not-true _ (c .if2 .taken)) (refl, refl)
+
+board-of-requires : tie.Need-board-of-requires
+board-of-requires c κs = search needs
+
+reset-requires : tie.Need-reset-requires
+reset-requires c κs = search needs
+
+settle-requires : tie.Need-settle-requires
+settle-requires c κs = search needs
+
+same-length-2 : tie.Need-same-length-2
+same-length-2 c = search needs
+
+returns-3 : tie.Need-returns-3
+returns-3 c =
+    let fits = sym (c .before .before .before .before .before .before .before .before .board-fits .ensures) ∙ not-false _ (c .before .before .before .before .before .before .before .if2 .left) in
+    reset-done _ _ (c .before .before .before .before .before .before .before .before .before .before .if1 .left) fits (c .before .before .before .before .before .board-of .ensures) _ _ _ _ (c .before .before .settle .ensures .0) (c .before .before .settle .ensures .1) (c .before .before .before .before .reset .ensures .0) (c .before .before .before .before .reset .ensures .1)
+
+pub deskboard-reset-spec : {M : Type 1} → statement M
+deskboard-reset-spec =
+    tie.close
+    (tie.spec
+    returns
+    board-fits-requires
+    same-length
+    returns-2
+    board-of-requires
+    reset-requires
+    settle-requires
+    same-length-2
+    returns-3)
