@@ -6,7 +6,7 @@
  * before everything else.
  *
  * States are lent as words, one 32-bit word a field, in the order below. Words past the last stay as they are. A word
- * that is out of its field's type (a byte above 255, a switch that is neither 0 nor 1, a row or column above 65,535)
+ * that is out of its field's type (a byte above 255, a switch that is neither 0 nor 1, a 16-bit field above 65,535)
  * makes the state unsound: refusal 15, in its order.
  *
  * Link with the archive that `rt staticlib capi` writes: target/staticlib/libcapi.a.
