@@ -1,5 +1,6 @@
 -- Laws of words.
 pub mod Within
 mod Laid
+mod Parts
 pub mod Crossing
 mod Once

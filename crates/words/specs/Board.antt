@@ -68,37 +68,42 @@ blitterOf words =
 unfoldable pub boardOf : List ℕ → Board
 boardOf words = record { ports = portsOf words; blitter = blitterOf words }
 
--- the other way round, in the same order
-abbrev pub portsWords : Ports → List ℕ
-portsWords p = p .video ∷ p .xdladr ∷ p .bladr ∷ p .p0 ∷ p .p1 ∷ p .p2 ∷ p .p3 ∷ []
+-- the other way round, in the same order: the registers, the list address, the flags and the code
+abbrev pub registerWords : Board → List ℕ
+registerWords b =
+    let p = b .ports in
+    let t = b .blitter in
+    p .video ∷ p .xdladr ∷ p .bladr ∷ p .p0 ∷ p .p1 ∷ p .p2 ∷ p .p3
+    ∷ switchWord (t .irqe) ∷ switchWord (t .irqf) ∷ t .list ∷ t .flags ∷ t .code ∷ []
 
 abbrev pub sideWords : Side → List ℕ
 sideWords s = s .adr0 ∷ s .adr1 ∷ s .adr2 ∷ s .y0 ∷ s .y1 ∷ s .x ∷ []
 
 abbrev pub blockWords : Block → List ℕ
 blockWords b =
-    sideWords (b .source)
-    ++ sideWords (b .dest)
+    (sideWords (b .source) ++ sideWords (b .dest))
     ++ (b .width0 ∷ b .width1 ∷ b .height ∷ b .andmask ∷ b .xormask ∷ b .hitmask ∷ b .zoom ∷ b .pattern ∷ b .control ∷ [])
 
-abbrev pub blitterWords : Blitter → List ℕ
-blitterWords b =
-    (switchWord (b .irqe) ∷ switchWord (b .irqf) ∷ b .list ∷ b .flags ∷ b .code ∷ [])
-    ++ blockWords (b .block)
-    ++ (b .row ∷ b .col ∷ [])
+abbrev pub positionWords : Board → List ℕ
+positionWords b = b .blitter .row ∷ b .blitter .col ∷ []
 
 unfoldable pub boardWords : Board → List ℕ
-boardWords b = portsWords (b .ports) ++ blitterWords (b .blitter)
+boardWords b = (registerWords b ++ blockWords (b .blitter .block)) ++ positionWords b
 
 -- "out of its field's type (a byte above 255, a switch that is neither 0 nor 1, a row or column above 65,535)": the largest word of each field
+abbrev pub registerMost : List ℕ
+registerMost =
+    aByte ∷ aWord ∷ aWord ∷ aByte ∷ aByte ∷ aByte ∷ aByte
+    ∷ 1 ∷ 1 ∷ aWord ∷ aByte ∷ aByte ∷ []
+
+abbrev pub blockMost : List ℕ
+blockMost =
+    aByte ∷ aByte ∷ aByte ∷ aByte ∷ aByte ∷ aByte
+    ∷ aByte ∷ aByte ∷ aByte ∷ aByte ∷ aByte ∷ aByte
+    ∷ aByte ∷ aByte ∷ aByte ∷ aByte ∷ aByte ∷ aByte ∷ aByte ∷ aByte ∷ aByte ∷ []
+
 unfoldable pub boardMost : List ℕ
-boardMost =
-    (aByte ∷ aWord ∷ aWord ∷ aByte ∷ aByte ∷ aByte ∷ aByte ∷ [])
-    ++ (1 ∷ 1 ∷ aWord ∷ aByte ∷ aByte ∷ [])
-    ++ (aByte ∷ aByte ∷ aByte ∷ aByte ∷ aByte ∷ aByte ∷ [])
-    ++ (aByte ∷ aByte ∷ aByte ∷ aByte ∷ aByte ∷ aByte ∷ [])
-    ++ (aByte ∷ aByte ∷ aByte ∷ aByte ∷ aByte ∷ aByte ∷ aByte ∷ aByte ∷ aByte ∷ [])
-    ++ (aHalf ∷ aHalf ∷ [])
+boardMost = (registerMost ++ blockMost) ++ (aHalf ∷ aHalf ∷ [])
 
 abbrev pub boardFits : List ℕ → Bool
 boardFits words = within boardMost words 0

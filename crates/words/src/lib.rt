@@ -1,9 +1,8 @@
 ghost use mathlib.Core.Path.{_≡_};
-ghost use mathlib.Core.List.{_++_};
-ghost use Prim.Native.Nat.{_≤_};
-ghost use lib.ListN.{length, drop};
-ghost use Rattle.words.specs.Words.{wordAt, byteIn, halfIn, switchIn, within, laid};
-ghost use Rattle.words.specs.Board.{portsOf, sideOf, blockOf, blitterOf, boardOf, boardWords, boardFits};
+ghost use Prim.Native.Nat.{_+_, _≤_};
+ghost use lib.ListN.{length};
+ghost use Rattle.words.specs.Words.{wordAt, byteIn, halfIn, switchIn, within, copied, laid};
+ghost use Rattle.words.specs.Board.{portsOf, sideOf, blockOf, blitterOf, boardOf, blockWords, boardWords, boardFits};
 ghost use Rattle.words.specs.Frame.{overlayOf, mapOf, lookOf, settingsOf, settingsWords, frameOf, frameWords, frameFits};
 use blitter::Blitter;
 use block::Block;
@@ -44,27 +43,30 @@ fn switch(words: &[u32], k: usize) -> bool
     word(words, k) == 1
 }
 
-// Whether no word is above the largest of its field.
-fn all_within(words: &[u32], most: &[u32]) -> bool
-    ensures { λ r. ⌜ r ≡ within (now (most .entry)) (now (words .entry)) 0 ⌝ }
+// Whether no word from a place on is above the largest of its field.
+fn all_within(words: &[u32], from: usize, most: &[u32]) -> bool
+    requires { ⌜ from ≤ 33 ⌝ }
+    ensures { λ r. ⌜ r ≡ within (now (most .entry)) (now (words .entry)) from ⌝ }
 {
     let mut all = true;
+    let mut at = from;
     let mut i = 0;
     while i < most.len() {
-        all = all & (word(words, i) <= most[i]);
+        all = all & (word(words, at) <= most[i]);
+        at += 1;
         i += 1;
     }
     all
 }
 
-// Copies the words of a state to the front of what is lent.
-fn copy(words: &mut [u32], new: &[u32])
-    requires { ⌜ length (now new) ≤ length (now words) ⌝ }
-    ensures { λ _. ⌜ now (words .exit) ≡ now (new .entry) ++ drop (length (now (new .entry))) (now (words .entry)) ⌝ }
+// Copies words to a place of what is lent.
+fn copy(words: &mut [u32], from: usize, new: &[u32])
+    requires { ⌜ from + length (now new) ≤ length (now words) ⌝ }
+    ensures { λ _. ⌜ now (words .exit) ≡ copied from (now (new .entry)) (now (words .entry)) ⌝ }
 {
     let mut i = 0;
     while i < new.len() {
-        words[i] = new[i];
+        words[from + i] = new[i];
         i += 1;
     }
 }
@@ -76,7 +78,7 @@ pub fn lay(words: &mut [u32], new: &[u32])
     if words.len() < new.len() {
         return;
     }
-    copy(words, new);
+    copy(words, 0, new);
 }
 
 fn ports_of(words: &[u32]) -> Ports
@@ -157,7 +159,7 @@ pub fn board_of(words: &[u32]) -> Board
 pub fn board_fits(words: &[u32]) -> bool
     ensures { λ r. ⌜ r ≡ boardFits (now (words .entry)) ⌝ }
 {
-    let most = [
+    let registers = [
         255,
         4294967295,
         4294967295,
@@ -170,55 +172,21 @@ pub fn board_fits(words: &[u32]) -> bool
         4294967295,
         255,
         255,
-        255,
-        255,
-        255,
-        255,
-        255,
-        255,
-        255,
-        255,
-        255,
-        255,
-        255,
-        255,
-        255,
-        255,
-        255,
-        255,
-        255,
-        255,
-        255,
-        255,
-        255,
-        65535,
-        65535,
     ];
-    all_within(words, &most)
+    let block = [255; 21];
+    let position = [65535, 65535];
+    all_within(words, 0, &registers)
+        & all_within(words, 12, &block)
+        & all_within(words, 33, &position)
 }
 
-// The words of a board, laid over what is lent.
-pub fn put_board(words: &mut [u32], board: Board)
-    ensures { λ _. ⌜ now (words .exit) ≡ laid (boardWords board) (now (words .entry)) ⌝ }
+fn copy_block(words: &mut [u32], block: Block)
+    requires { ⌜ 33 ≤ length (now words) ⌝ }
+    ensures { λ _. ⌜ now (words .exit) ≡ copied 12 (blockWords block) (now (words .entry)) ⌝ }
 {
-    let ports = board.ports;
-    let blitter = board.blitter;
-    let block = blitter.block;
     let source = block.source;
     let dest = block.dest;
     let new = [
-        ports.video as u32,
-        ports.xdladr,
-        ports.bladr,
-        ports.p0 as u32,
-        ports.p1 as u32,
-        ports.p2 as u32,
-        ports.p3 as u32,
-        blitter.irqe as u32,
-        blitter.irqf as u32,
-        blitter.list,
-        blitter.flags as u32,
-        blitter.code as u32,
         source.adr0 as u32,
         source.adr1 as u32,
         source.adr2 as u32,
@@ -240,10 +208,36 @@ pub fn put_board(words: &mut [u32], board: Board)
         block.zoom as u32,
         block.pattern as u32,
         block.control as u32,
-        blitter.row as u32,
-        blitter.col as u32,
     ];
-    lay(words, &new);
+    copy(words, 12, &new);
+}
+
+// The words of a board, laid over what is lent.
+pub fn put_board(words: &mut [u32], board: Board)
+    ensures { λ _. ⌜ now (words .exit) ≡ laid (boardWords board) (now (words .entry)) ⌝ }
+{
+    if words.len() < 35 {
+        return;
+    }
+    let ports = board.ports;
+    let blitter = board.blitter;
+    let registers = [
+        ports.video as u32,
+        ports.xdladr,
+        ports.bladr,
+        ports.p0 as u32,
+        ports.p1 as u32,
+        ports.p2 as u32,
+        ports.p3 as u32,
+        blitter.irqe as u32,
+        blitter.irqf as u32,
+        blitter.list,
+        blitter.flags as u32,
+        blitter.code as u32,
+    ];
+    copy(words, 0, &registers);
+    copy_block(words, blitter.block);
+    copy(words, 33, &[blitter.row as u32, blitter.col as u32]);
 }
 
 fn overlay_of(words: &[u32]) -> Overlay
@@ -371,42 +365,23 @@ pub fn frame_fits(words: &[u32]) -> bool
         1,
         1,
     ];
-    all_within(words, &most)
+    all_within(words, 0, &most)
 }
 
 // The words of a frame, laid over what is lent: those of its settings, and five.
 pub fn put_frame(words: &mut [u32], frame: Frame)
     ensures { λ _. ⌜ now (words .exit) ≡ laid (frameWords frame) (now (words .entry)) ⌝ }
 {
-    let settings = frame.settings;
-    let overlay = settings.overlay;
-    let map = settings.map;
-    let look = settings.look;
+    if words.len() < 24 {
+        return;
+    }
+    put_settings(words, frame.settings);
     let new = [
-        overlay.mode as u32,
-        overlay.address,
-        overlay.step as u32,
-        overlay.hscroll as u32,
-        overlay.vscroll as u32,
-        overlay.font as u32,
-        overlay.counter as u32,
-        map.on as u32,
-        map.address,
-        map.step as u32,
-        map.hscroll as u32,
-        map.vscroll as u32,
-        map.width as u32,
-        map.height as u32,
-        map.counter as u32,
-        look.width as u32,
-        look.palette as u32,
-        look.playfield as u32,
-        look.priority as u32,
         frame.position,
         frame.repeat as u32,
         frame.line as u32,
         frame.ended as u32,
         frame.on as u32,
     ];
-    lay(words, &new);
+    copy(words, 19, &new);
 }

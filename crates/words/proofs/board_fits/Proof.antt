@@ -1,5 +1,5 @@
--- `words::board_fits` meets its contract. Assumes nothing.
-use Rattle.words.specs.Board.{boardMost}
+-- `words::board_fits` meets its contract: three tables, one behind the other. Assumes nothing.
+use Rattle.words.proofs.Parts.{board-within}
 use borrow.Author.Needs.{needs}
 use Rattle.words.proofs.board_fits.Statement.{statement}
 use Rattle.words.proofs.board_fits.Tie as tie
@@ -10,9 +10,29 @@ slice-aggregate-all-within c = search needs
 all-within-requires : tie.Need-all-within-requires
 all-within-requires c κs = search needs
 
+slice-aggregate-all-within-2 : tie.Need-slice-aggregate-all-within-2
+slice-aggregate-all-within-2 c = search needs
+
+all-within-requires-2 : tie.Need-all-within-requires-2
+all-within-requires-2 c κs = search needs
+
+slice-aggregate-all-within-3 : tie.Need-slice-aggregate-all-within-3
+slice-aggregate-all-within-3 c = search needs
+
+all-within-requires-3 : tie.Need-all-within-requires-3
+all-within-requires-3 c κs = search needs
+
 returns : tie.Need-returns
-unfolding boardMost
-returns c = c .all-within .ensures
+returns c = board-within _ _ _ _ (c .before .before .before .before .all-within .ensures) (c .before .before .all-within2 .ensures) (c .all-within3 .ensures)
 
 pub board-fits-spec : {M : Type 1} → statement M
-board-fits-spec = tie.close (tie.spec slice-aggregate-all-within all-within-requires returns)
+board-fits-spec =
+    tie.close
+    (tie.spec
+    slice-aggregate-all-within
+    all-within-requires
+    slice-aggregate-all-within-2
+    all-within-requires-2
+    slice-aggregate-all-within-3
+    all-within-requires-3
+    returns)

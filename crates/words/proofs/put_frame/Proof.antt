@@ -1,14 +1,18 @@
--- `words::put_frame` meets its contract: the words stand in the order of the page. Assumes nothing.
-use mathlib.Core.Path.{_∙_}
-use native.Mathlib.Omega.{arith}
+-- `words::put_frame` meets its contract: five words behind those of the settings. Assumes nothing.
+use borrow.Author.Tests.{lt-leb}
 use Rattle.laws.proofs.Choice.{bool-byte}
 use Rattle.words.specs.Frame.{frameWords, settingsWords}
+use Rattle.words.proofs.Parts.{frame-laid}
 use borrow.Author.Needs.{needs}
 use Rattle.words.proofs.put_frame.Statement.{statement}
 use Rattle.words.proofs.put_frame.Tie as tie
 
-cast-t8 : tie.Need-cast-t8
-cast-t8 c = search needs
+returns : tie.Need-returns
+unfolding frameWords settingsWords
+returns c = simp (lt-leb _ _ (c .if1 .taken))
+
+put-settings-requires : tie.Need-put-settings-requires
+put-settings-requires c κs = search needs
 
 cast-t9 : tie.Need-cast-t9
 cast-t9 c = search needs
@@ -22,93 +26,29 @@ cast-t11 c = search needs
 cast-t12 : tie.Need-cast-t12
 cast-t12 c = search needs
 
-cast-t13 : tie.Need-cast-t13
-cast-t13 c = search needs
+slice-aggregate-copy : tie.Need-slice-aggregate-copy
+slice-aggregate-copy c = search needs
 
-cast-t14 : tie.Need-cast-t14
-cast-t14 c = search needs
-
-cast-t15 : tie.Need-cast-t15
-cast-t15 c = search needs
-
-cast-t16 : tie.Need-cast-t16
-cast-t16 c = search needs
-
-cast-t17 : tie.Need-cast-t17
-cast-t17 c = search needs
-
-cast-t18 : tie.Need-cast-t18
-cast-t18 c = search needs
-
-cast-t19 : tie.Need-cast-t19
-cast-t19 c = search needs
-
-cast-t20 : tie.Need-cast-t20
-cast-t20 c = search needs
-
-cast-t21 : tie.Need-cast-t21
-cast-t21 c = search needs
-
-cast-t22 : tie.Need-cast-t22
-cast-t22 c = search needs
-
-cast-t23 : tie.Need-cast-t23
-cast-t23 c = search needs
-
-cast-t24 : tie.Need-cast-t24
-cast-t24 c = search needs
-
-cast-t25 : tie.Need-cast-t25
-cast-t25 c = search needs
-
-cast-t26 : tie.Need-cast-t26
-cast-t26 c = search needs
-
-cast-t27 : tie.Need-cast-t27
-cast-t27 c = search needs
-
-cast-t28 : tie.Need-cast-t28
-cast-t28 c = search needs
-
-slice-aggregate-lay : tie.Need-slice-aggregate-lay
-slice-aggregate-lay c = search needs
-
-lay-requires : tie.Need-lay-requires
-lay-requires c κs = search needs
+copy-requires : tie.Need-copy-requires
+copy-requires c κs = search needs
 
 same-length : tie.Need-same-length
 same-length c = search needs
 
-returns : tie.Need-returns
-unfolding frameWords settingsWords
-returns c = c .before .before .lay .ensures ∙ simp bool-byte
+returns-2 : tie.Need-returns-2
+returns-2 c = frame-laid (c .before .before .before .before .before .before .before .before .before .before .before .before .before .before .before .args .frame) (c .before .before .before .before .before .before .before .before .before .before .before .before .before .before .before .args .words .now) _ _ (c .before .before .before .before .before .before .before .before .before .before .before .before .before .if1 .left) (c .before .before .before .before .before .before .before .before .before .before .before .put-settings .ensures) (simp bool-byte at (c .before .before .copy .ensures))
 
 pub put-frame-spec : {M : Type 1} → statement M
 put-frame-spec =
     tie.close
     (tie.spec
-    cast-t8
+    returns
+    put-settings-requires
     cast-t9
     cast-t10
     cast-t11
     cast-t12
-    cast-t13
-    cast-t14
-    cast-t15
-    cast-t16
-    cast-t17
-    cast-t18
-    cast-t19
-    cast-t20
-    cast-t21
-    cast-t22
-    cast-t23
-    cast-t24
-    cast-t25
-    cast-t26
-    cast-t27
-    cast-t28
-    slice-aggregate-lay
-    lay-requires
+    slice-aggregate-copy
+    copy-requires
     same-length
-    returns)
+    returns-2)
