@@ -210,10 +210,7 @@ fn trap_text(mem: &mut [u8]) {
 // A step in x of FF goes backwards: 3500h, then 34FFh.
 fn backwards(mem: &mut [u8]) {
     print::text(b"step x byte FF: ");
-    run(
-        mem,
-        b"\0\0\0\0\0\0\x00\x35\0\0\0\xFF\x01\0\0\0\xBB\0\0\0\0",
-    );
+    run(mem, b"\0\0\0\0\0\0\x00\x35\0\0\0\xFF\x01\0\0\0\xBB\0\0\0\0");
     cells(mem, 0x34FE);
 }
 
