@@ -269,7 +269,8 @@ pub extern "C" fn deskboard_compile(plan: &[u8], out: &mut [u8], report: &mut [u
     let told = plan::compile(plan, out);
     match told {
         Compiled::Done(bytes) => {
-            words::lay(report, &[bytes as u32]);
+            let count = bytes as u32;
+            words::lay(report, &[count]);
             0
         }
         Compiled::Refused(why, item) => {

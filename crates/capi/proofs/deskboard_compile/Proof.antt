@@ -20,8 +20,8 @@ compile-requires c κs = search needs
 enum-known-told : tie.Need-enum-known-told
 enum-known-told c = search needs
 
-cast-t17 : tie.Need-cast-t17
-cast-t17 c = let s = compile-small _ _ _ (sym (c .before .before .before .before .before .before .compile .ensures .0) ∙ ap compileTold (c .before .before .told .given .1)) in omega arith
+cast-count : tie.Need-cast-count
+cast-count c = let s = compile-small _ _ _ (sym (c .before .before .before .before .before .compile .ensures .0) ∙ ap compileTold (c .before .told .given .1)) in omega arith
 
 slice-aggregate-lay : tie.Need-slice-aggregate-lay
 slice-aggregate-lay c = search needs
@@ -75,7 +75,7 @@ deskboard-compile-spec =
     returns
     compile-requires
     enum-known-told
-    cast-t17
+    cast-count
     slice-aggregate-lay
     lay-requires
     enum-known-told-2

@@ -1,6 +1,5 @@
 -- `words::put_settings` meets its contract: the words stand in the order of the page. Assumes nothing.
 use mathlib.Core.Path.{_∙_}
-use native.Mathlib.Omega.{arith}
 use Rattle.laws.proofs.Choice.{bool-byte}
 use Rattle.words.specs.Frame.{settingsWords}
 use borrow.Author.Needs.{needs}
