@@ -2,14 +2,12 @@
  *
  * Build the archive at the top of the repository, then this program here, and run it:
  *   rt staticlib capi
- *   cc -Wall -Wextra example.c ../../target/staticlib/libcapi.a -I ../../include -o example && ./example
+ *   cc -Wall -Wextra example.c ../../target/staticlib/libcapi.a -I ../../include -o ../../target/example && ../../target/example
  */
 #include <stdio.h>
 #include "deskboard.h"
 
-static uint32_t board[DESKBOARD_BOARD_WORDS];
-static uint32_t frame[DESKBOARD_FRAME_WORDS];
-static uint32_t line[DESKBOARD_SETTINGS_WORDS];
+static uint32_t board[DESKBOARD_BOARD_WORDS], frame[DESKBOARD_FRAME_WORDS], line[DESKBOARD_SETTINGS_WORDS];
 static uint8_t mem[16384];
 
 /* Writes the three bytes of an address register. */
