@@ -9,6 +9,8 @@
  * that is out of its field's type (a byte above 255, a switch that is neither 0 nor 1, a 16-bit field above 65,535)
  * makes the state unsound: refusal 15, in its order.
  *
+ * Buffers that are lent to one call must not overlap.
+ *
  * Link with the archive that `rt staticlib capi` writes: target/staticlib/libcapi.a.
  */
 #ifndef DESKBOARD_H
