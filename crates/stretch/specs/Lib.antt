@@ -1,0 +1,2 @@
+-- A stretch of bytes.
+pub mod Stretch
