@@ -27,7 +27,7 @@ pub stepY-small : (low high : ℕ) → low < 256 → mag (stepY low high) < 4096
 unfolding stepY
 stepY-small low high h = signed-small 4096 8191 (low + 256 * (high % 32)) refl (omega arith)
 
-wrap-small : (z : ℤ) → wrap19 z < 524288
+pub wrap-small : (z : ℤ) → wrap19 z < 524288
 unfolding wrap19
 wrap-small (pos n) = omega arith
 wrap-small (negsuc n) = omega arith

@@ -27,3 +27,10 @@ wrap19 (negsuc n) = 524287 - n % 524288
 unfoldable pub sideAddress : Side → ℕ → ℕ → ℕ
 sideAddress side row col =
     wrap19 (pos (number19 (side .adr0) (side .adr1) (side .adr2)) +ℤ pos row *ℤ stepY (side .y0) (side .y1) +ℤ pos col *ℤ stepX (side .x))
+
+-- a step in x and in y of an address, modulo 524,288
+unfoldable pub acrossOf : Side → ℕ
+acrossOf side = wrap19 (stepX (side .x))
+
+unfoldable pub downOf : Side → ℕ
+downOf side = wrap19 (stepY (side .y0) (side .y1))

@@ -1,7 +1,7 @@
 ghost use mathlib.Core.Path.{_≡_};
 ghost use Prim.Native.Nat.{_+_, _<_, _≤_};
 ghost use lib.Signed.{mag};
-ghost use Rattle.step.specs.Step.{signed, stepX, stepY, wrap19, sideAddress};
+ghost use Rattle.step.specs.Step.{signed, stepX, stepY, wrap19, sideAddress, acrossOf, downOf};
 
 // The source's or the destination's six bytes of a block, as the manual orders them:
 // the address, the step in y, the step in x.
@@ -57,5 +57,19 @@ impl Side {
         let down = step_y(self.y0, self.y1);
         let along = step_x(self.x);
         wrap_19(start as i32 + row as i32 * down + col as i32 * along)
+    }
+
+    // How much further the next column's address is, reduced to 19 bits.
+    pub fn across(self) -> u32
+        ensures { λ r. ⌜ r ≡ acrossOf self ⌝ }
+    {
+        wrap_19(step_x(self.x))
+    }
+
+    // How much further the next row's address is, reduced to 19 bits.
+    pub fn down(self) -> u32
+        ensures { λ r. ⌜ r ≡ downOf self ⌝ }
+    {
+        wrap_19(step_y(self.y0, self.y1))
     }
 }
