@@ -1,6 +1,2 @@
--- The blitter's state, its tick and its run.
+-- The blitter's state.
 pub mod State
-pub mod Tick
-pub mod Run
-pub mod Engine
-pub mod Machine

@@ -3,6 +3,7 @@ use mathlib.Core.Path.{_≡_, sym, _∙_, ap}
 use mathlib.Core.Logic.{⊎-elim}
 use Prim.Native.Nat.{ℕ, suc, _+_, _*_, _/_, _%_, _<_, _≤_}
 use native.Mathlib.Nat.{mod-lt, div-add-mod', mul-add-div-right, mul-add-mod-self-right, div-eq-of-lt, mod-eq-of-lt, div-lt-iff-lt-mul, add-zero, eq-or-lt-of-le}
+use native.Mathlib.Numerals.{add-one}
 use native.Mathlib.Omega.{arith}
 
 module _ (c : ℕ) (some : 0 < c) where
@@ -13,11 +14,15 @@ module _ (c : ℕ) (some : 0 < c) where
   pub col-of : (r k : ℕ) → k < c → (r * c + k) % c ≡ k
   col-of r k h = mul-add-mod-self-right r c k ∙ mod-eq-of-lt h
 
+  -- a place further on in the same row
+  pub far-col : (n k : ℕ) → n % c + k < c → ((n + k) / c ≡ n / c) × ((n + k) % c ≡ n % c + k)
+  far-col n k h =
+      let e : n + k ≡ n / c * c + (n % c + k) = omega (arith, div-add-mod' n c) in
+      (ap (λ (x : ℕ). x / c) e ∙ row-of (n / c) (n % c + k) h, ap (λ (x : ℕ). x % c) e ∙ col-of (n / c) (n % c + k) h)
+
   -- the next place: in the same row, or at the beginning of the next
   pub next-col : (n : ℕ) → n % c + 1 < c → (suc n / c ≡ n / c) × (suc n % c ≡ n % c + 1)
-  next-col n h =
-      let e : suc n ≡ n / c * c + (n % c + 1) = omega (arith, div-add-mod' n c) in
-      (ap (λ (x : ℕ). x / c) e ∙ row-of (n / c) (n % c + 1) h, ap (λ (x : ℕ). x % c) e ∙ col-of (n / c) (n % c + 1) h)
+  next-col n h = rw (sym (add-one n)) (far-col n 1 h)
 
   pub next-row : (n : ℕ) → c ≤ n % c + 1 → (suc n / c ≡ n / c + 1) × (suc n % c ≡ 0)
   next-row n h =

@@ -10,9 +10,9 @@ use Rattle.laws.proofs.Choice.{by-cond}
 use Rattle.refusal.specs.Sheet.{Told, done, refused, unless, kept}
 use Rattle.vram.specs.Memory.{goodLength}
 use Rattle.blitter.specs.State.{soundBlitter, stopped, interrupts}
-use Rattle.blitter.specs.Tick.{tickBlitter, tickMemory, tickCount}
-use Rattle.blitter.specs.Run as blit
-use Rattle.blitter.specs.Run.{Counts, Running, ticked, onward, runFor, begun, counted}
+use Rattle.engine.specs.Tick.{tickBlitter, tickMemory, tickCount}
+use Rattle.engine.specs.Run as blit
+use Rattle.engine.specs.Run.{Counts, Running, ticked, onward, runFor, begun, counted}
 use Rattle.blitter.specs.declared.Blitter.{Blitter}
 use Rattle.board.specs.declared.Ports.{Ports}
 use Rattle.board.specs.declared.Board.{Board}

@@ -6,7 +6,7 @@ use denote.Ref.{now}
 use Rattle.laws.proofs.Once.{OneAnswer, OneExit}
 use Rattle.refusal.proofs.Sheet.{number-one, outcome-one}
 use Rattle.refusal.specs.Sheet.{Told, done, refused, numberOf}
-use Rattle.blitter.proofs.Once.{run-one}
+use Rattle.engine.proofs.Once.{run-one}
 use Rattle.board.specs.Board.{readTold}
 use Rattle.board.specs.declared.ReadReport.{ReadReport}
 use Rattle.board.specs.declared.ReadReport.the-variants.{Byte, Refused}

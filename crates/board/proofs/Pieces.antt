@@ -5,9 +5,9 @@ use mathlib.Core.List.{List}
 use Prim.Native.Nat.{ℕ, _+_, _≤_}
 use lib.ListN.{length}
 use Rattle.vram.specs.Memory.{goodLength}
-use Rattle.blitter.specs.Run as blit
+use Rattle.engine.specs.Run as blit
 use Rattle.blitter.specs.declared.Blitter.{Blitter}
-use Rattle.blitter.proofs.Pieces.{Taken, added, pieces-blitter, pieces-memory, pieces-answer}
+use Rattle.engine.proofs.Pieces.{Taken, added, pieces-blitter, pieces-memory, pieces-answer}
 use Rattle.board.specs.declared.Board.{Board}
 use Rattle.board.specs.Board.{runAnswer, runBoard, runMemory}
 use Rattle.board.proofs.Answer.{Gives, as-blitter}

@@ -10,11 +10,11 @@ use borrow.Author.Tests.{ltb-true, lt-ltb}
 use Rattle.laws.proofs.Choice.{both, and-both, by-cond}
 use Rattle.refusal.specs.Sheet.{Told, done, refused, kept}
 use Rattle.blitter.specs.State.{soundBlitter, stopped}
-use Rattle.blitter.specs.Run.{begun}
+use Rattle.engine.specs.Run.{begun}
 use Rattle.blitter.specs.declared.Blitter.{Blitter}
 use Rattle.blitter.proofs.Sound as blit
-use Rattle.blitter.proofs.Run.{run-sound, run-length}
-use Rattle.blitter.proofs.Bytes.{Bytes, run-bytes}
+use Rattle.engine.proofs.Runs.{run-sound, run-length}
+use Rattle.engine.proofs.Bytes.{Bytes, run-bytes}
 use Rattle.board.specs.declared.Ports.{Ports}
 use Rattle.board.specs.declared.Board.{Board}
 use Rattle.board.specs.Ports.{soundPorts, lowSet, middleSet, highSet, videoSet, addressesSet, prioritiesSet, portsWritten}

@@ -7,8 +7,8 @@ use lib.ListN.{length}
 use Rattle.refusal.specs.Sheet.{numberOf, Told, done, refused, unless, kept}
 use Rattle.vram.specs.Memory.{goodLength}
 use Rattle.blitter.specs.State.{newBlitter, soundBlitter, started, stopped, interrupts}
-use Rattle.blitter.specs.Tick.{tickBlitter, tickMemory, tickCount}
-use Rattle.blitter.specs.Run.{Counts, runFor, begun, counted}
+use Rattle.engine.specs.Tick.{tickBlitter, tickMemory, tickCount}
+use Rattle.engine.specs.Run.{Counts, runFor, begun, counted}
 use Rattle.blitter.specs.declared.Blitter.{Blitter}
 use Rattle.board.specs.declared.Ports.{Ports}
 use Rattle.board.specs.declared.Board.{Board}

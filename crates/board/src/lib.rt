@@ -1,10 +1,10 @@
 ghost use mathlib.Core.Path.{_≡_};
 ghost use Rattle.refusal.specs.Sheet.{outcomeTold};
-ghost use Rattle.blitter.specs.Run.{runTold};
+ghost use Rattle.engine.specs.Run.{runTold};
 ghost use Rattle.board.specs.Ports.{newPorts, soundPorts, lowSet, middleSet, highSet, portsWritten};
 ghost use Rattle.board.specs.Board.{newBoard, soundBoard, register, blitterWritten, writeAnswer, writeBoard, readByte, readTold, readAnswer, resetAnswer, resetBoard, runAnswer, runBoard, runMemory, tickAnswer, tickBoard, tickMem};
 use blitter::Blitter;
-use blitter::RunReport;
+use engine::RunReport;
 use refusal::Outcome;
 use refusal::Refusal;
 
@@ -161,7 +161,7 @@ fn blitter_write(blitter: Blitter, bladr: u32, offset: u32, value: u8) -> Blitte
 
 impl Board {
     // The most ticks that one run may ask for.
-    pub const BUDGET: u32 = Blitter::BUDGET;
+    pub const BUDGET: u32 = engine::BUDGET;
 
     pub fn new() -> Board
         ensures { λ r. ⌜ r ≡ newBoard ⌝ }
@@ -279,7 +279,7 @@ impl Board {
             };
         }
         let blitter = self.blitter;
-        let ran = blitter.run(mem, budget);
+        let ran = engine::run(blitter, mem, budget);
         let after = ran.blitter;
         let report = ran.report;
         self.blitter = after;

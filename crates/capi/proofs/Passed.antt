@@ -10,7 +10,7 @@ use borrow.Author.Tests.{le-leb, leb-true}
 use Rattle.refusal.proofs.Sheet.{passed}
 use Rattle.refusal.specs.Sheet.{Told, done, refused, unless, kept}
 use Rattle.vram.specs.Memory.{goodLength}
-use Rattle.blitter.specs.Run.{Counts}
+use Rattle.engine.specs.Run.{Counts}
 use Rattle.board.specs.declared.Board.{Board}
 use Rattle.board.specs.Board.{newBoard, writeAnswer, writeBoard, readAnswer, resetAnswer, resetBoard, runAnswer, runBoard, runMemory, tickAnswer, tickBoard, tickMem}
 use Rattle.settings.specs.declared.Settings.{Settings}

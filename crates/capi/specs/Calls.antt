@@ -5,7 +5,7 @@ use lib.Dec.{leb}
 use lib.ListN.{length}
 use Rattle.refusal.specs.Sheet.{Told, done, refused, unless, kept}
 use Rattle.vram.specs.Memory.{goodLength}
-use Rattle.blitter.specs.Run.{Counts}
+use Rattle.engine.specs.Run.{Counts}
 use Rattle.board.specs.Board.{newBoard, writeAnswer, writeBoard, readAnswer, resetAnswer, resetBoard, runAnswer, runBoard, runMemory, tickAnswer, tickBoard, tickMem}
 use Rattle.settings.specs.declared.Settings.{Settings}
 use Rattle.frame.specs.declared.Frame.{Frame}

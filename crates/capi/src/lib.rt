@@ -3,7 +3,7 @@ ghost use mathlib.Core.Path.{_≡_};
 ghost use lib.ListN.{length};
 ghost use Rattle.refusal.specs.Sheet.{outcomeTold, kept};
 ghost use Rattle.vram.specs.Install.{installAnswer, installMemory};
-ghost use Rattle.blitter.specs.Run.{runTold};
+ghost use Rattle.engine.specs.Run.{runTold};
 ghost use Rattle.words.specs.Words.{laid};
 ghost use Rattle.words.specs.Board.{boardWords};
 ghost use Rattle.capi.specs.Calls.{
@@ -35,11 +35,11 @@ ghost use Rattle.capi.specs.Calls.{
   compileBytes,
   compileReport,
 };
-use blitter::RunReport;
 use board::Board;
 use board::Changed;
 use board::Ran;
 use board::ReadReport;
+use engine::RunReport;
 use frame::Frame;
 use frame::FrameStart;
 use frame::LineReport;

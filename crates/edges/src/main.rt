@@ -1,7 +1,7 @@
 // The cases of document 01, "At the edges", that are not starred, and one case for each of its traps, where a program that
 // fell into it would print something else.
-use blitter::RunReport;
 use board::Board;
+use engine::RunReport;
 use frame::Frame;
 use frame::FrameStart;
 use frame::LineReport;

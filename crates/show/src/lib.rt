@@ -1,6 +1,6 @@
 // What the programs at the edges print of a board: how it stands, what a call told, cells of memory.
-use blitter::RunReport;
 use board::Board;
+use engine::RunReport;
 use refusal::Outcome;
 
 // A name and a number.

@@ -62,7 +62,7 @@ module _ (s : Side) (row col : ℕ) where
 step-more : (a t d x y : ℕ) → x ≡ (a + t) % 524288 → y ≡ (x + d) % 524288 → y ≡ (a + (t + d)) % 524288
 step-more a t d x y e f = omega arith
 
-side-19 : (s : Side) (row col : ℕ) → sideAddress s row col ≡ (sideAddress s row col + 0) % 524288
+pub side-19 : (s : Side) (row col : ℕ) → sideAddress s row col ≡ (sideAddress s row col + 0) % 524288
 side-19 s row col = omega (arith, side-small s row col)
 
 pub across-on : (s : Side) (row col k : ℕ) → sideAddress s row (col + k) ≡ (sideAddress s row col + k * acrossOf s) % 524288

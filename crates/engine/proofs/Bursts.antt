@@ -1,0 +1,270 @@
+-- What holds at each turn of a burst: the rest of the budget makes of it what the whole makes of what the burst was handed. Assumes nothing.
+use mathlib.Core.Path.{_≡_, refl, sym, ap, subst, _∙_}
+use mathlib.Core.Bool.{Bool, true, false, cond}
+use mathlib.Core.List.{List}
+use mathlib.Core.Logic.{_⊎_, inl, inr, ⊎-elim}
+use Prim.Native.Nat.{ℕ, zero, suc, _+_, _-_, _*_, _≤_, _<_}
+use native.Mathlib.Nat.{add-zero}
+use native.Mathlib.Omega.{arith}
+use lib.ListN.{length}
+use lib.Dec.{eqb}
+use borrow.Author.Tests.{eqb-true, lt-ltb, le-ltb}
+use Rattle.laws.proofs.Choice.{both}
+use Rattle.vram.specs.Memory.{goodLength}
+use Rattle.block.specs.Block.{zoomY, columnsOf, rowsOf, destAddress, sourceAddress}
+use Rattle.block.specs.Byte.{written, struckAt}
+use Rattle.block.specs.declared.Block.{Block}
+use Rattle.block.specs.declared.Struck.{Struck}
+use Rattle.block.proofs.Byte.{written-length, struck-small}
+use Rattle.stretch.specs.Stretch.{Drawing, drawing, strokes, drawn}
+use Rattle.blitter.specs.declared.Blitter.{Blitter}
+use Rattle.engine.specs.Tick.{busyAt, ended, advanced, byteTick, tickBlitter, tickMemory, tickCount}
+use Rattle.engine.specs.Run.{Running, ticked, runFor, running}
+use Rattle.engine.specs.Engine.{BurstFrom, BurstTo, Column, Row, Reach, tallOf, sourceStep, destStep, aheadRow, aheadCol, stretchAt}
+use Rattle.blitter.proofs.Sound.{Inside, Sound, sound-test, first-inside}
+use Rattle.engine.proofs.Tick.{busy-sound, ended-sound}
+use Rattle.engine.proofs.Runs.{run-tick}
+use Rattle.engine.proofs.Strokes.{struck-at, strokes-last, strokes-from, strokes-few}
+use Rattle.engine.proofs.Steps.{source-on, dest-on}
+
+-- a tick less is left
+pub less : (budget done : ℕ) → done < budget → suc (budget - (done + 1)) ≡ budget - done
+less budget done h = omega arith
+
+-- the same flags at another position
+abbrev placed : Blitter → ℕ → ℕ → ℕ → ℕ → Blitter
+placed b flags row col code =
+    record { irqe = b .irqe; irqf = b .irqf; list = b .list; flags = flags; code = code; block = b .block; row = row; col = col }
+
+-- which are those of a busy blitter
+as-busy : (b : Blitter) (row col code : ℕ) → b .flags ≡ 2 → busyAt b row col code ≡ placed b (b .flags) row col code
+as-busy b row col code e = ap (λ (n : ℕ). placed b n row col code) (sym e)
+
+pub record Bursting (b : Blitter) (first : List ℕ) (ticks accesses budget : ℕ) (mem : List ℕ) (row col code done made : ℕ) : Type 0 where
+  pub from : BurstFrom b first ticks accesses budget
+  pub long : length mem ≡ length first
+  pub place : Inside (b .block) row col
+  pub begun : ticks ≤ done
+  pub within : done ≤ budget
+  pub counted : made ≤ 21 * done
+  pub same : runFor (budget - done) (running (busyAt b row col code) mem done made) ≡ runFor (budget - ticks) (running b first ticks accesses)
+
+module _ {b : Blitter} {first : List ℕ} {ticks accesses budget : ℕ} where
+  pub burst-start : BurstFrom b first ticks accesses budget → Bursting b first ticks accesses budget first (b .row) (b .col) (b .code) ticks accesses
+  burst-start f =
+      record {
+        from = f;
+        long = refl;
+        place = record { row-in = f .row; col-in = f .col };
+        begun = omega arith;
+        within = omega (arith, f .left);
+        counted = f .counted;
+        same = ap (λ (x : Blitter). runFor (budget - ticks) (running x first ticks accesses)) (as-busy b (b .row) (b .col) (b .code) (f .busy));
+      }
+
+  module _ {mem : List ℕ} {row col code done made : ℕ} (g : Bursting b first ticks accesses budget mem row col code done made) where
+    -- the budget is used
+    pub burst-used : budget ≤ done → BurstTo b first ticks accesses budget (placed b (b .flags) row col code) mem done made
+    burst-used h =
+        subst (λ (x : Blitter). BurstTo b first ticks accesses budget x mem done made) (as-busy b row col code (g .from .busy))
+        (record {
+          sound = sound-test _ (busy-sound b row col code (g .from .list) (g .place));
+          long = g .long;
+          further = omega (arith, g .from .left);
+          within = g .within;
+          counted = g .counted;
+          same = g .same;
+        })
+
+    module _ (h : done < budget) where
+      -- one byte tick
+      byte : Struck
+      byte = struckAt (b .block) mem row col code
+
+      on : runFor (budget - (done + 1)) (running (advanced (busyAt b row col code) (byte .code)) (written (b .block) row col mem) (done + 1) (made + byte .accesses))
+          ≡ runFor (budget - ticks) (running b first ticks accesses)
+      unfolding byte ticked tickBlitter tickMemory tickCount byteTick
+      on =
+          sym (run-tick (budget - (done + 1)) (running (busyAt b row col code) mem done made) (λ e. absurd (let z : _≡_ {A = ℕ} 2 0 = e in omega arith)))
+          ∙ ap (λ (k : ℕ). runFor k (running (busyAt b row col code) mem done made)) (less budget done h)
+          ∙ g .same
+
+      long-on : length (written (b .block) row col mem) ≡ length first
+      long-on = written-length (b .block) row col mem ∙ g .long
+
+      few-on : made + byte .accesses ≤ 21 * (done + 1)
+      unfolding byte
+      few-on = omega (arith, struck-small (b .block) row col mem code, g .counted)
+
+      -- the next column
+      turn-col : col + 1 < columnsOf (b .block) → Bursting b first ticks accesses budget (written (b .block) row col mem) row (col + 1) (struckAt (b .block) mem row col code .code) (done + 1) (made + struckAt (b .block) mem row col code .accesses)
+      unfolding byte advanced
+      turn-col k =
+          record {
+            from = g .from;
+            long = long-on;
+            place = record { row-in = g .place .row-in; col-in = k };
+            begun = omega (arith, g .begun);
+            within = omega arith;
+            counted = few-on;
+            same = rw (lt-ltb (col + 1) (columnsOf (b .block)) k) at on;
+          }
+
+      -- the next row
+      turn-row : columnsOf (b .block) ≤ col + 1 → row + 1 < rowsOf (b .block) → Bursting b first ticks accesses budget (written (b .block) row col mem) (row + 1) 0 (struckAt (b .block) mem row col code .code) (done + 1) (made + struckAt (b .block) mem row col code .accesses)
+      unfolding byte advanced
+      turn-row k l =
+          record {
+            from = g .from;
+            long = long-on;
+            place = record { row-in = l; col-in = first-inside (b .block) .col-in };
+            begun = omega (arith, g .begun);
+            within = omega arith;
+            counted = few-on;
+            same = rw (le-ltb (col + 1) (columnsOf (b .block)) k, lt-ltb (row + 1) (rowsOf (b .block)) l) at on;
+          }
+
+      -- the block's end
+      turn-end : columnsOf (b .block) ≤ col + 1 → rowsOf (b .block) ≤ row + 1 → BurstTo b first ticks accesses budget (ended b (struckAt (b .block) mem row col code .code)) (written (b .block) row col mem) (done + 1) (made + struckAt (b .block) mem row col code .accesses)
+      unfolding byte advanced ended
+      turn-end k l =
+          record {
+            sound = sound-test _ (ended-sound b _ (g .from .list));
+            long = long-on;
+            further = omega (arith, g .begun);
+            within = omega arith;
+            counted = few-on;
+            same = rw (le-ltb (col + 1) (columnsOf (b .block)) k, le-ltb (row + 1) (rowsOf (b .block)) l) at on;
+          }
+
+-- fewer bytes are in reach too
+pub reach-less : (b : Block) (row col n k : ℕ) → k ≤ n → Reach b row col n → Reach b row col k
+reach-less b row col n k h =
+    ⊎-elim
+    (λ c. inl (record { tall = c .tall; left = omega (arith, c .left) }))
+    (λ r. inr (record { wide = r .wide; left = omega (arith, r .left); plain = λ e. omega (arith, r .plain e); zoomed = λ e. omega (arith, r .zoomed e) }))
+
+-- no byte on is here
+none-row : (t : Bool) (row : ℕ) → cond t (row + 0) row ≡ row
+none-row true row = add-zero row
+none-row false row = refl
+
+none-col : (t : Bool) (col : ℕ) → cond t col (col + 0) ≡ col
+none-col true col = refl
+none-col false col = add-zero col
+
+module _ (b : Blitter) (first : List ℕ) (ticks accesses budget : ℕ) where
+  abbrev At : Drawing → ℕ → ℕ → ℕ → Type 0
+  At d row col done = Bursting b first ticks accesses budget (d .mem) row col (d .code) done (d .accesses)
+
+  -- the same, of equal parts
+  moved : (d e : Drawing) (row row′ col col′ done done′ : ℕ) → d ≡ e → row ≡ row′ → col ≡ col′ → done ≡ done′ → At d row col done → At e row′ col′ done′
+  moved d e row row′ col col′ done done′ p q r s x =
+      subst (λ (z : ℕ). At e row′ col′ z) s
+      (subst (λ (z : ℕ). At e row′ z done) r (subst (λ (z : ℕ). At e z col done) q (subst (λ (z : Drawing). At z row col done) p x)))
+
+  module _ {mem : List ℕ} {row col code done made : ℕ} (g : Bursting b first ticks accesses budget mem row col code done made) where
+    -- so many bytes of the stretch, counted on from what was made
+    abbrev many : ℕ → Drawing
+    many k = strokes (b .block) (sourceStep (b .block)) (destStep (b .block)) k (sourceAddress (b .block) row col) (destAddress (b .block) row col) (drawing mem code made)
+
+    -- where the byte k on stands
+    abbrev rowOn : ℕ → ℕ
+    rowOn k = aheadRow (b .block) row k
+
+    abbrev colOn : ℕ → ℕ
+    colOn k = aheadCol (b .block) col k
+
+    one-more : (k : ℕ) → Reach (b .block) row col (suc k)
+        → drawing (written (b .block) (rowOn k) (colOn k) (many k .mem)) (struckAt (b .block) (many k .mem) (rowOn k) (colOn k) (many k .code) .code) (many k .accesses + struckAt (b .block) (many k .mem) (rowOn k) (colOn k) (many k .code) .accesses)
+        ≡ many (suc k)
+    one-more k r =
+        sym (strokes-last (b .block) (sourceStep (b .block)) (destStep (b .block)) k (sourceAddress (b .block) row col) (destAddress (b .block) row col) (drawing mem code made)
+        ∙ struck-at (b .block) (rowOn k) (colOn k) _ _ (many k .mem) (many k .code) (many k .accesses) (source-on (b .block) row col k r) (dest-on (b .block) row col k))
+
+    -- one turn more, down a tall block
+    down : (k : ℕ) → Column (b .block) row (suc (suc k)) → done + suc k < budget → At (many k) (rowOn k) (colOn k) (done + k) → At (many (suc k)) (rowOn (suc k)) (colOn (suc k)) (done + suc k)
+    down k c h before =
+        let one : columnsOf (b .block) ≡ 1 = eqb-true (columnsOf (b .block)) 1 (both (eqb (columnsOf (b .block)) 1) (eqb (zoomY (b .block)) 1) (c .tall) .0) in
+        let here : rowOn k ≡ row + k = rw (c .tall) refl in
+        let there : rowOn (suc k) ≡ row + suc k = rw (c .tall) refl in
+        let side : colOn (suc k) ≡ col = rw (c .tall) refl in
+        moved _ (many (suc k)) _ (rowOn (suc k)) _ (colOn (suc k)) _ (done + suc k) (one-more k (reach-less (b .block) row col (suc (suc k)) (suc k) (omega arith) (inl c))) (omega arith) (omega (arith, g .place .col-in)) (omega arith)
+        (turn-row before (omega arith) (omega arith) (omega (arith, c .left)))
+
+    -- and along a row
+    along : (k : ℕ) → Row (b .block) col (suc (suc k)) → done + suc k < budget → At (many k) (rowOn k) (colOn k) (done + k) → At (many (suc k)) (rowOn (suc k)) (colOn (suc k)) (done + suc k)
+    along k c h before =
+        let here : colOn k ≡ col + k = rw (c .wide) refl in
+        let there : colOn (suc k) ≡ col + suc k = rw (c .wide) refl in
+        let same : rowOn k ≡ row = rw (c .wide) refl in
+        let side : rowOn (suc k) ≡ row = rw (c .wide) refl in
+        moved _ (many (suc k)) _ (rowOn (suc k)) _ (colOn (suc k)) _ (done + suc k) (one-more k (reach-less (b .block) row col (suc (suc k)) (suc k) (omega arith) (inr c))) (omega arith) (omega arith) (omega arith)
+        (turn-col before (omega arith) (omega (arith, c .left)))
+
+    -- the byte k on is reached after k turns
+    turns : (k : ℕ) → Reach (b .block) row col (suc k) → done + k < budget → At (many k) (rowOn k) (colOn k) (done + k)
+    unfolding strokes
+    turns zero r h =
+        moved (drawing mem code made) (drawing mem code made) row (rowOn 0) col (colOn 0) done (done + 0) refl
+        (sym (none-row (tallOf (b .block)) row)) (sym (none-col (tallOf (b .block)) col)) (sym (add-zero done)) g
+    turns (suc k) r h =
+        let before : At (many k) (rowOn k) (colOn k) (done + k) = turns k (reach-less (b .block) row col (suc (suc k)) (suc k) (omega arith) r) (omega arith) in
+        ⊎-elim (λ c. down k c h before) (λ c. along k c h before) r
+
+    -- a whole stretch: d is what is drawn
+    module _ (count : ℕ) (some : 0 < count) (r : Reach (b .block) row col count) (room : done + count ≤ budget)
+        (d : Drawing) (e : d ≡ drawn (b .block) (stretchAt (b .block) row col count) mem code) where
+      board-in : goodLength (length mem) ≡ true
+      board-in = ap goodLength (g .long) ∙ g .from .board
+
+      suc-is : suc (count - 1) ≡ count
+      suc-is = omega arith
+
+      last-reach : Reach (b .block) row col (suc (count - 1))
+      last-reach = reach-less (b .block) row col count (suc (count - 1)) (omega arith) r
+
+      -- what is made with it
+      abbrev sum : Drawing
+      sum = drawing (d .mem) (d .code) (made + d .accesses)
+
+      whole : many (suc (count - 1)) ≡ sum
+      unfolding drawn
+      whole =
+          ap (λ (n : ℕ). many n) suc-is
+          ∙ ap (λ (a : ℕ). strokes (b .block) (sourceStep (b .block)) (destStep (b .block)) count (sourceAddress (b .block) row col) (destAddress (b .block) row col) (drawing mem code a)) (sym (add-zero made))
+          ∙ strokes-from (b .block) (sourceStep (b .block)) (destStep (b .block)) count (sourceAddress (b .block) row col) (destAddress (b .block) row col) mem code made 0
+          ∙ ap (λ (z : Drawing). drawing (z .mem) (z .code) (made + z .accesses)) (sym (e ∙ rw board-in refl))
+
+      -- its accesses are few
+      pub stretch-few : d .accesses ≤ 3 * count
+      unfolding drawn
+      stretch-few =
+          rw (e, board-in)
+          (omega (arith, strokes-few (b .block) (sourceStep (b .block)) (destStep (b .block)) count (sourceAddress (b .block) row col) (destAddress (b .block) row col) (drawing mem code 0)))
+
+      last : At (many (count - 1)) (rowOn (count - 1)) (colOn (count - 1)) (done + (count - 1))
+      last = turns (count - 1) last-reach (omega arith)
+
+      -- its last byte is inside the block
+      pub last-in : Inside (b .block) (rowOn (count - 1)) (colOn (count - 1))
+      last-in = last .place
+
+      all-done : done + (count - 1) + 1 ≡ done + count
+      all-done = omega arith
+
+      -- then the next column
+      pub stretch-col : colOn (count - 1) + 1 < columnsOf (b .block) → At sum (rowOn (count - 1)) (colOn (count - 1) + 1) (done + count)
+      stretch-col h = moved _ sum _ _ _ _ _ (done + count) (one-more (count - 1) last-reach ∙ whole) refl refl all-done (turn-col last (omega arith) h)
+
+      -- or the next row
+      pub stretch-row : columnsOf (b .block) ≤ colOn (count - 1) + 1 → rowOn (count - 1) + 1 < rowsOf (b .block) → At sum (rowOn (count - 1) + 1) 0 (done + count)
+      stretch-row h k = moved _ sum _ _ _ _ _ (done + count) (one-more (count - 1) last-reach ∙ whole) refl refl all-done (turn-row last (omega arith) h k)
+
+      -- or the block's end
+      pub stretch-end : columnsOf (b .block) ≤ colOn (count - 1) + 1 → rowsOf (b .block) ≤ rowOn (count - 1) + 1
+          → BurstTo b first ticks accesses budget (ended b (d .code)) (d .mem) (done + count) (made + d .accesses)
+      stretch-end h k =
+          subst (λ (z : ℕ). BurstTo b first ticks accesses budget (ended b (d .code)) (d .mem) z (made + d .accesses)) all-done
+          (subst (λ (z : Drawing). BurstTo b first ticks accesses budget (ended b (z .code)) (z .mem) (done + (count - 1) + 1) (z .accesses)) (one-more (count - 1) last-reach ∙ whole)
+          (turn-end last (omega arith) h k))

@@ -1,0 +1,75 @@
+-- Bytes stay bytes over a tick, over n ticks and over a run: memory's, the block's and the code. Assumes nothing.
+use mathlib.Core.Bool.{Bool, true, false, cond}
+use mathlib.Core.List.{List}
+use Prim.Native.Nat.{ℕ, _+_, _<_}
+use native.Mathlib.Omega.{arith}
+use lib.Dec.{eqb, ltb}
+use lib.ListN.{getD}
+use Rattle.laws.proofs.Choice.{by-cond}
+use Rattle.block.specs.Block.{noSide, noBlock, columnsOf, rowsOf}
+use Rattle.block.specs.Byte.{written}
+use Rattle.block.proofs.Byte.{code-byte, written-bytes}
+use Rattle.block.proofs.Bytes.{SideBytes, BlockBytes, block-bytes}
+use Rattle.blitter.specs.declared.Blitter.{Blitter}
+use Rattle.engine.specs.Tick.{loadTick, ended, advanced, byteTick, tickBlitter, tickMemory}
+use Rattle.engine.specs.Run.{Running, ticked, runFor}
+use Rattle.engine.specs.Machine.{Machine, tock, after}
+use Rattle.engine.proofs.Runs.{run-keeps}
+use Rattle.engine.proofs.Machine.{after-keeps}
+
+-- what a blitter holds in bytes
+pub record Held (b : Blitter) : Type 0 where
+  pub block-in : BlockBytes (b .block)
+  pub code-in : b .code < 256
+
+pub record Bytes (b : Blitter) (mem : List ℕ) : Type 0 where
+  pub cells : (i : ℕ) → getD mem i 0 < 256
+  pub held : Held b
+
+none-side : SideBytes noSide
+unfolding noSide
+none-side = record { adr0 = omega arith; adr1 = omega arith; adr2 = omega arith; y0 = omega arith; y1 = omega arith; x = omega arith }
+
+pub none-bytes : BlockBytes noBlock
+unfolding noBlock
+none-bytes =
+    record {
+      source = none-side;
+      dest = none-side;
+      width0 = omega arith;
+      width1 = omega arith;
+      height = omega arith;
+      andmask = omega arith;
+      xormask = omega arith;
+      hitmask = omega arith;
+      zoom = omega arith;
+      pattern = omega arith;
+      control = omega arith;
+    }
+
+advanced-held : (b : Blitter) (code : ℕ) → BlockBytes (b .block) → code < 256 → Held (advanced b code)
+unfolding advanced ended
+advanced-held b code k c =
+    by-cond Held (ltb (b .col + 1) (columnsOf (b .block))) _ _ (λ _. record { block-in = k; code-in = c })
+    (λ _. by-cond Held (ltb (b .row + 1) (rowsOf (b .block))) _ _ (λ _. record { block-in = k; code-in = c })
+    (λ _. record { block-in = none-bytes; code-in = c }))
+
+pub tick-bytes : (b : Blitter) (mem : List ℕ) → Bytes b mem → Bytes (tickBlitter b mem) (tickMemory b mem)
+unfolding tickBlitter tickMemory
+tick-bytes b mem h = by (eqb (b .flags) 0) (eqb (b .flags) 1)
+  where
+    by : (t u : Bool) → Bytes (cond t b (cond u (loadTick b mem) (byteTick b mem))) (cond t mem (cond u mem (written (b .block) (b .row) (b .col) mem)))
+    by true u = h
+    by false true = unfold loadTick in record { cells = h .cells; held = record { block-in = block-bytes mem (b .list) (h .cells); code-in = h .held .code-in } }
+    by false false =
+        let k = h .held .block-in in
+        unfold byteTick in record {
+          cells = written-bytes (b .block) (b .row) (b .col) mem (h .cells) (k .andmask) (k .xormask);
+          held = advanced-held b _ k (code-byte (b .block) (b .row) (b .col) mem (h .cells) (b .code) (h .held .code-in));
+        }
+
+pub after-bytes : (n : ℕ) (s : Machine) → Bytes (s .blitter) (s .mem) → Bytes (after n s .blitter) (after n s .mem)
+after-bytes n s = after-keeps (λ (q : Machine). Bytes (q .blitter) (q .mem)) (λ q h. unfold tock in tick-bytes (q .blitter) (q .mem) h) n s
+
+pub run-bytes : (n : ℕ) (r : Running) → Bytes (r .blitter) (r .mem) → Bytes (runFor n r .blitter) (runFor n r .mem)
+run-bytes n r = run-keeps (λ (q : Running). Bytes (q .blitter) (q .mem)) (λ q h. unfold ticked in tick-bytes (q .blitter) (q .mem) h) n r

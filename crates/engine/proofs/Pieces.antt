@@ -1,0 +1,84 @@
+-- A run that is taken, by its public answers: what it leaves is n ticks, and two runs one after the other are one run with the sum of their budgets. Assumes nothing.
+use mathlib.Core.Path.{_≡_, sym, ap, subst, _∙_}
+use mathlib.Core.Bool.{true}
+use mathlib.Core.List.{List}
+use Prim.Native.Nat.{ℕ, _+_, _≤_}
+use native.Mathlib.Nat.{add-zero}
+use native.Mathlib.Omega.{arith}
+use lib.ListN.{length}
+use Rattle.refusal.specs.Sheet.{Told, done, refused}
+use Rattle.vram.specs.Memory.{goodLength}
+use Rattle.blitter.specs.declared.Blitter.{Blitter}
+use Rattle.engine.specs.Run.{Running, Counts, runFor, begun, counted, runAnswer, runBlitter, runMemory}
+use Rattle.engine.specs.Machine.{Machine, machine, after}
+use Rattle.blitter.proofs.Sound.{Sound, sound-test}
+use Rattle.engine.proofs.Answer.{Gives, ran}
+use Rattle.engine.proofs.Machine.{after-add, after-sound, after-length, run-after, run-add, further, run-further}
+
+-- a run that none of its refusals meets
+pub record Taken (b : Blitter) (mem : List ℕ) (budget : ℕ) : Type 0 where
+  pub good : goodLength (length mem) ≡ true
+  pub sound : Sound b
+  pub small : budget ≤ 1000000
+
+-- the counts of two runs together
+abbrev pub added : Told Counts → Told Counts → Told Counts
+added (done c) (done d) = done (record { ticks = c .ticks + d .ticks; accesses = c .accesses + d .accesses })
+added (done c) (refused number item) = refused number item
+added (refused number item) told = refused number item
+
+module _ {b : Blitter} {mem : List ℕ} {n : ℕ} (t : Taken b mem n) where
+  gives : Gives b mem n (counted (runFor n (begun b mem))) (runFor n (begun b mem) .blitter) (runFor n (begun b mem) .mem)
+  gives = ran b mem n (t .good) (sound-test b (t .sound)) (t .small)
+
+  pub taken-answer : runAnswer b mem n ≡ counted (runFor n (begun b mem))
+  taken-answer = sym (gives .0)
+
+  -- what it leaves is what n ticks leave
+  pub taken-machine : machine (runBlitter b mem n) (runMemory b mem n) ≡ after n (machine b mem)
+  taken-machine = sym (λ i. machine (gives .1 .0 i) (gives .1 .1 i)) ∙ run-after n (begun b mem)
+
+  pub taken-sound : Sound (runBlitter b mem n)
+  taken-sound = subst (λ (s : Machine). Sound (s .blitter)) (sym taken-machine) (after-sound n (machine b mem) (t .sound))
+
+  pub taken-length : length (runMemory b mem n) ≡ length mem
+  taken-length = ap (λ (s : Machine). length (s .mem)) taken-machine ∙ after-length n (machine b mem)
+
+-- a run so far, as one that begins anew
+as-further : (r : Running) → r ≡ further (r .ticks) (r .accesses) (begun (r .blitter) (r .mem))
+as-further r = sym (λ i. record { blitter = r .blitter; mem = r .mem; ticks = add-zero (r .ticks) i; accesses = add-zero (r .accesses) i })
+
+module _ {b : Blitter} {mem : List ℕ} (m n : ℕ) (t : Taken b mem (m + n)) where
+  pub first-taken : Taken b mem m
+  first-taken = record { good = t .good; sound = t .sound; small = omega (arith, t .small) }
+
+  pub second-taken : Taken (runBlitter b mem m) (runMemory b mem m) n
+  second-taken =
+      record {
+        good = ap goodLength (taken-length first-taken) ∙ t .good;
+        sound = taken-sound first-taken;
+        small = omega (arith, t .small);
+      }
+
+  pub pieces-machine :
+      machine (runBlitter (runBlitter b mem m) (runMemory b mem m) n) (runMemory (runBlitter b mem m) (runMemory b mem m) n)
+      ≡ machine (runBlitter b mem (m + n)) (runMemory b mem (m + n))
+  pieces-machine =
+      taken-machine second-taken ∙ ap (after n) (taken-machine first-taken) ∙ sym (after-add m n (machine b mem)) ∙ sym (taken-machine t)
+
+  pub pieces-blitter : runBlitter (runBlitter b mem m) (runMemory b mem m) n ≡ runBlitter b mem (m + n)
+  pieces-blitter = ap (λ (s : Machine). s .blitter) pieces-machine
+
+  pub pieces-memory : runMemory (runBlitter b mem m) (runMemory b mem m) n ≡ runMemory b mem (m + n)
+  pieces-memory = ap (λ (s : Machine). s .mem) pieces-machine
+
+  -- ticks and accesses add up
+  pub pieces-answer : runAnswer b mem (m + n) ≡ added (runAnswer b mem m) (runAnswer (runBlitter b mem m) (runMemory b mem m) n)
+  pieces-answer =
+      taken-answer t
+      ∙ ap counted (run-add m n (begun b mem) ∙ ap (runFor n) (as-further first) ∙ run-further n (first .ticks) (first .accesses) (begun (first .blitter) (first .mem)))
+      ∙ ap (λ (s : Machine). added (counted first) (counted (runFor n (begun (s .blitter) (s .mem))))) (run-after m (begun b mem) ∙ sym (taken-machine first-taken))
+      ∙ sym (λ i. added (taken-answer first-taken i) (taken-answer second-taken i))
+    where
+      first : Running
+      first = runFor m (begun b mem)

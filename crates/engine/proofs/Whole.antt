@@ -1,0 +1,107 @@
+-- A block from its load to its end: the blitter and memory after n of its bytes, and after all. Assumes nothing.
+use mathlib.Core.Path.{_≡_, refl, sym, ap, _∙_}
+use mathlib.Core.Bool.{Bool, true, false}
+use mathlib.Core.List.{List}
+use Prim.Native.Nat.{ℕ, zero, suc, _+_, _<_}
+use native.Mathlib.Nat.{zero-div, zero-mod, mul-le-mul}
+use native.Mathlib.Omega.{arith}
+use lib.Dec.{ltb}
+use borrow.Author.Tests.{ltb-true, ltb-false, eq-eqb, ne-eqb, lt-ltb, le-ltb}
+use Rattle.block.specs.Block.{columnsOf, rowsOf, blockAt}
+use Rattle.block.specs.Byte.{written, struckAt, rowAt, colAt, sizeOf, blockMem, blockCode}
+use Rattle.block.specs.declared.Block.{Block}
+use Rattle.block.proofs.Byte.{block-none, block-next, code-none, code-next}
+use Rattle.block.proofs.Place.{next-col, next-row, more-rows, no-column, no-row}
+use Rattle.block.proofs.Sizes.{columns-pos, rows-pos}
+use Rattle.blitter.specs.declared.Blitter.{Blitter}
+use Rattle.engine.specs.Tick.{loadTick, busyAt, ended, advanced, byteTick, tickBlitter, tickMemory}
+use Rattle.engine.specs.Machine.{Machine, machine, tock, after, holding, busyOn}
+use Rattle.engine.proofs.Machine.{after-none, after-suc, after-first}
+
+-- a block has at least one byte
+pub size-pos : (k : Block) → 0 < sizeOf k
+size-pos k = mul-le-mul {n₁ = 1} {m₁ = 1} (rows-pos k) (columns-pos k)
+
+module _ (b : Blitter) where
+  -- one byte tick
+  busy-tock :
+      (row col code : ℕ) (mem : List ℕ)
+      → tock (machine (busyAt b row col code) mem) ≡ machine (advanced (busyAt b row col code) (struckAt (b .block) mem row col code .code)) (written (b .block) row col mem)
+  unfolding tock tickBlitter tickMemory byteTick
+  busy-tock row col code mem = refl
+
+  module _ (code next n : ℕ) where
+    -- the next byte
+    next-on : suc n < sizeOf (b .block) → advanced (busyOn b code n) next ≡ busyOn b next (suc n)
+    unfolding advanced
+    next-on l = by (ltb (colAt (b .block) n + 1) (columnsOf (b .block))) refl
+      where
+        by : (t : Bool) → ltb (colAt (b .block) n + 1) (columnsOf (b .block)) ≡ t → advanced (busyOn b code n) next ≡ busyOn b next (suc n)
+        by true e =
+            let p = next-col (columnsOf (b .block)) (columns-pos (b .block)) n (ltb-true _ _ e) in
+            rw (e, p .0, p .1)
+        by false e =
+            let h = ltb-false _ _ e in
+            let p = next-row (columnsOf (b .block)) (columns-pos (b .block)) n h in
+            rw (e, lt-ltb _ _ (more-rows (columnsOf (b .block)) (columns-pos (b .block)) (rowsOf (b .block)) n l h), p .0, p .1)
+
+    -- the end
+    last-on : suc n ≡ sizeOf (b .block) → advanced (busyOn b code n) next ≡ ended b next
+    unfolding advanced ended
+    last-on l =
+        rw (
+          le-ltb _ _ (no-column (columnsOf (b .block)) (columns-pos (b .block)) (rowsOf (b .block)) n l),
+          le-ltb _ _ (no-row (columnsOf (b .block)) (columns-pos (b .block)) (rowsOf (b .block)) n l),
+        )
+
+  module _ (code : ℕ) (mem : List ℕ) where
+    -- the tick of the n-th byte, and what it makes of the blitter
+    step-on :
+        (n : ℕ) (b′ : Blitter) → after n (machine (busyOn b code 0) mem) ≡ machine (busyOn b (blockCode (b .block) n mem code) n) (blockMem (b .block) n mem)
+        → advanced (busyOn b (blockCode (b .block) n mem code) n) (blockCode (b .block) (suc n) mem code) ≡ b′
+        → after (suc n) (machine (busyOn b code 0) mem) ≡ machine b′ (blockMem (b .block) (suc n) mem)
+    step-on n b′ before e =
+        after-suc n _
+        ∙ ap tock before
+        ∙ busy-tock (rowAt (b .block) n) (colAt (b .block) n) (blockCode (b .block) n mem code) (blockMem (b .block) n mem)
+        ∙ sym (λ i. machine (advanced (busyOn b (blockCode (b .block) n mem code) n) (code-next (b .block) mem n code i)) (block-next (b .block) mem n i))
+        ∙ ap (λ (x : Blitter). machine x (blockMem (b .block) (suc n) mem)) e
+
+    -- a busy blitter after n bytes of its block
+    pub during :
+        (n : ℕ) → n < sizeOf (b .block)
+        → after n (machine (busyOn b code 0) mem) ≡ machine (busyOn b (blockCode (b .block) n mem code) n) (blockMem (b .block) n mem)
+    during zero l = after-none _ ∙ sym (λ i. machine (busyOn b (code-none (b .block) mem code i) 0) (block-none (b .block) mem i))
+    during (suc n) l = step-on n _ (during n (omega arith)) (next-on (blockCode (b .block) n mem code) (blockCode (b .block) (suc n) mem code) n l)
+
+    -- and after all of them
+    pub whole :
+        after (sizeOf (b .block)) (machine (busyOn b code 0) mem)
+        ≡ machine (ended b (blockCode (b .block) (sizeOf (b .block)) mem code)) (blockMem (b .block) (sizeOf (b .block)) mem)
+    whole = at (sizeOf (b .block)) refl
+      where
+        at : (n : ℕ) → n ≡ sizeOf (b .block) → after n (machine (busyOn b code 0) mem) ≡ machine (ended b (blockCode (b .block) n mem code)) (blockMem (b .block) n mem)
+        at zero e = absurd (omega (arith, size-pos (b .block), e))
+        at (suc n) e = step-on n _ (during n (omega arith)) (last-on (blockCode (b .block) n mem code) (blockCode (b .block) (suc n) mem code) n e)
+
+-- a machine whose next block is known
+module _ (s : Machine) (k : Block) (load : s .blitter .flags ≡ 1) (known : blockAt (s .mem) (s .blitter .list) ≡ k) where
+  -- its load
+  pub loaded : tock s ≡ machine (busyOn (holding k (s .blitter)) (s .blitter .code) 0) (s .mem)
+  unfolding tock tickBlitter tickMemory loadTick holding
+  loaded =
+      rw (ne-eqb (s .blitter .flags) 0 (omega arith), eq-eqb (s .blitter .flags) 1 load, zero-div (columnsOf k), zero-mod (columnsOf k))
+      (ap (λ (x : Block). machine (holding x (s .blitter)) (s .mem)) known)
+
+  -- after n bytes of the block
+  pub block-busy :
+      (n : ℕ) → n < sizeOf k
+      → after (suc n) s ≡ machine (busyOn (holding k (s .blitter)) (blockCode k n (s .mem) (s .blitter .code)) n) (blockMem k n (s .mem))
+  unfolding holding
+  block-busy n l = after-first n s ∙ ap (after n) loaded ∙ during (holding k (s .blitter)) (s .blitter .code) (s .mem) n l
+
+  -- from its load to its end
+  pub block-step :
+      after (suc (sizeOf k)) s ≡ machine (ended (holding k (s .blitter)) (blockCode k (sizeOf k) (s .mem) (s .blitter .code))) (blockMem k (sizeOf k) (s .mem))
+  unfolding holding
+  block-step = after-first (sizeOf k) s ∙ ap (after (sizeOf k)) loaded ∙ whole (holding k (s .blitter)) (s .blitter .code) (s .mem)

@@ -1,0 +1,5 @@
+-- A tick, a run, and the engine.
+pub mod Tick
+pub mod Run
+pub mod Engine
+pub mod Machine

@@ -1,0 +1,41 @@
+-- The blitter with its memory, and what n ticks make of both: the words of the theorems over a list, where counts do not matter.
+use mathlib.Core.List.{List}
+use Prim.Native.Nat.{ℕ, zero, suc, _+_, _%_}
+use Rattle.block.specs.Byte.{rowAt, colAt}
+use Rattle.block.specs.declared.Block.{Block}
+use Rattle.blitter.specs.declared.Blitter.{Blitter}
+use Rattle.engine.specs.Tick.{busyAt, tickBlitter, tickMemory}
+
+pub record Machine : Type 0 where
+  pub blitter : Blitter
+  pub mem : List ℕ
+
+abbrev pub machine : Blitter → List ℕ → Machine
+machine b mem = record { blitter = b; mem = mem }
+
+-- one tick; an idle blitter's changes nothing
+unfoldable pub tock : Machine → Machine
+tock s = record { blitter = tickBlitter (s .blitter) (s .mem); mem = tickMemory (s .blitter) (s .mem) }
+
+-- n ticks
+unfoldable pub after : ℕ → Machine → Machine
+after zero s = s
+after (suc n) s = tock (after n s)
+
+-- a blitter that has loaded block k: the load tick, with the block named
+unfoldable pub holding : Block → Blitter → Blitter
+holding k b =
+    record {
+      irqe = b .irqe;
+      irqf = b .irqf;
+      list = (b .list + 21) % 524288;
+      flags = 2;
+      code = b .code;
+      block = k;
+      row = 0;
+      col = 0;
+    }
+
+-- busy with the n-th byte of its block
+abbrev pub busyOn : Blitter → ℕ → ℕ → Blitter
+busyOn b code n = busyAt b (rowAt (b .block) n) (colAt (b .block) n) code

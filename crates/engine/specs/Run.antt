@@ -1,0 +1,70 @@
+-- Document 01, "The blitter": "A run takes a budget and does ticks until the budget is used or flags are 0. It reports ticks done and accesses made."
+use mathlib.Core.Bool.{cond}
+use mathlib.Core.List.{List}
+use Prim.Native.Nat.{ℕ, zero, suc, _+_}
+use lib.Dec.{eqb, leb}
+use lib.ListN.{length}
+use Rattle.refusal.specs.Sheet.{numberOf, Told, done, refused, unless, kept}
+use Rattle.vram.specs.Memory.{goodLength}
+use Rattle.blitter.specs.declared.Blitter.{Blitter}
+use Rattle.engine.specs.declared.RunReport.{RunReport}
+use Rattle.engine.specs.declared.RunReport.the-variants.{Ran, Refused}
+use Rattle.blitter.specs.State.{soundBlitter}
+use Rattle.engine.specs.Tick.{tickBlitter, tickMemory, tickCount}
+
+-- a run so far: the blitter, memory, and the two counts
+pub record Running : Type 0 where
+  pub blitter : Blitter
+  pub mem : List ℕ
+  pub ticks : ℕ
+  pub accesses : ℕ
+
+-- one tick more
+unfoldable pub ticked : Running → Running
+ticked r =
+    record {
+      blitter = tickBlitter (r .blitter) (r .mem);
+      mem = tickMemory (r .blitter) (r .mem);
+      ticks = r .ticks + 1;
+      accesses = r .accesses + tickCount (r .blitter) (r .mem);
+    }
+
+-- a tick unless the flags are 0
+unfoldable pub onward : Running → Running
+onward r = cond (eqb (r .blitter .flags) 0) r (ticked r)
+
+-- a budget's worth
+unfoldable pub runFor : ℕ → Running → Running
+runFor zero r = r
+runFor (suc n) r = runFor n (onward r)
+
+abbrev pub running : Blitter → List ℕ → ℕ → ℕ → Running
+running b mem ticks accesses = record { blitter = b; mem = mem; ticks = ticks; accesses = accesses }
+
+abbrev pub begun : Blitter → List ℕ → Running
+begun b mem = running b mem 0 0
+
+-- what is reported: ticks and accesses
+pub record Counts : Type 0 where
+  pub ticks : ℕ
+  pub accesses : ℕ
+
+-- the paper's number and values for each case
+abbrev pub runTold : RunReport → Told Counts
+runTold (Ran t a) = done (record { ticks = t; accesses = a })
+runTold (Refused why) = refused (numberOf why) 0
+
+abbrev pub counted : Running → Told Counts
+counted r = done (record { ticks = r .ticks; accesses = r .accesses })
+
+-- 1 board, 15 state, 2 budget
+unfoldable pub runAnswer : Blitter → List ℕ → ℕ → Told Counts
+runAnswer b mem budget =
+    unless (goodLength (length mem)) 1
+    (unless (soundBlitter b) 15 (unless (leb budget 1000000) 2 (counted (runFor budget (begun b mem)))))
+
+unfoldable pub runBlitter : Blitter → List ℕ → ℕ → Blitter
+runBlitter b mem budget = kept (runAnswer b mem budget) b (runFor budget (begun b mem) .blitter)
+
+unfoldable pub runMemory : Blitter → List ℕ → ℕ → List ℕ
+runMemory b mem budget = kept (runAnswer b mem budget) mem (runFor budget (begun b mem) .mem)

@@ -1,0 +1,77 @@
+-- Document 01, "The blitter": a tick. What it makes of the state, of memory, and how many accesses it counts are three definitions.
+use mathlib.Core.Bool.{Bool, true, false, cond}
+use mathlib.Core.List.{List}
+use Prim.Native.Nat.{ℕ, _+_, _%_}
+use lib.Dec.{eqb, ltb}
+use Rattle.block.specs.Block.{blockAt, noBlock, columnsOf, rowsOf, nextOf}
+use Rattle.block.specs.Byte.{written, struckAt}
+use Rattle.blitter.specs.declared.Blitter.{Blitter}
+
+-- "A load tick (flags 1) reads the 21 bytes of the block .. from the list address on; adds 21 to it; sets flags to 2 (BUSY), row and column to 0"
+unfoldable pub loadTick : Blitter → List ℕ → Blitter
+loadTick b mem =
+    record {
+      irqe = b .irqe;
+      irqf = b .irqf;
+      list = (b .list + 21) % 524288;
+      flags = 2;
+      code = b .code;
+      block = blockAt mem (b .list);
+      row = 0;
+      col = 0;
+    }
+
+-- the same block at another position, with another collision code
+abbrev pub busyAt : Blitter → ℕ → ℕ → ℕ → Blitter
+busyAt b row col code =
+    record {
+      irqe = b .irqe;
+      irqf = b .irqf;
+      list = b .list;
+      flags = 2;
+      code = code;
+      block = b .block;
+      row = row;
+      col = col;
+    }
+
+-- "After the last byte, in that same tick: block and position go to 0; with NEXT (bit 3) flags become 1; else flags 0, and IRQF = 1 if IRQE"
+unfoldable pub ended : Blitter → ℕ → Blitter
+ended b code =
+    let next = nextOf (b .block) in
+    record {
+      irqe = b .irqe;
+      irqf = cond next (b .irqf) (cond (b .irqe) true (b .irqf));
+      list = b .list;
+      flags = cond next 1 0;
+      code = code;
+      block = noBlock;
+      row = 0;
+      col = 0;
+    }
+
+-- "Columns run 0..W·ZX−1 inside rows 0..H·ZY−1": the next column, else the next row, else the end
+unfoldable pub advanced : Blitter → ℕ → Blitter
+advanced b code =
+    cond (ltb (b .col + 1) (columnsOf (b .block)))
+    (busyAt b (b .row) (b .col + 1) code)
+    (cond (ltb (b .row + 1) (rowsOf (b .block))) (busyAt b (b .row + 1) 0 code) (ended b code))
+
+-- "A byte tick (flags 2) handles one destination byte"
+unfoldable pub byteTick : Blitter → List ℕ → Blitter
+byteTick b mem = advanced b (struckAt (b .block) mem (b .row) (b .col) (b .code) .code)
+
+-- an idle blitter's tick changes nothing
+unfoldable pub tickBlitter : Blitter → List ℕ → Blitter
+tickBlitter b mem = cond (eqb (b .flags) 0) b (cond (eqb (b .flags) 1) (loadTick b mem) (byteTick b mem))
+
+unfoldable pub tickMemory : Blitter → List ℕ → List ℕ
+tickMemory b mem =
+    cond (eqb (b .flags) 0) mem (cond (eqb (b .flags) 1) mem (written (b .block) (b .row) (b .col) mem))
+
+-- "It counts 21 accesses"; a byte's are the mode table's
+unfoldable pub tickCount : Blitter → List ℕ → ℕ
+tickCount b mem =
+    cond (eqb (b .flags) 0)
+    0
+    (cond (eqb (b .flags) 1) 21 (struckAt (b .block) mem (b .row) (b .col) (b .code) .accesses))

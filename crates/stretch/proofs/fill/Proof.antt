@@ -1,0 +1,71 @@
+-- `stretch::fill` meets its contract: the loop goes on as `Filling` says. Assumes nothing.
+use Prim.Native.Nat.{_-_}
+use native.Mathlib.Omega.{arith}
+use borrow.Author.Needs.{needs}
+use Rattle.stretch.proofs.Strokes.{Filling, Reached, reach, reached-on, reached-fits, start, fit, made-fits, count-fits, on, done}
+use Rattle.stretch.proofs.Single.{fill-is}
+use Rattle.stretch.proofs.fill.Statement.{statement}
+use Rattle.stretch.proofs.fill.Tie as tie
+
+abbrev Inv-loop : tie.InvT-loop
+Inv-loop block mem₀ code step count to₀ made₀ k₀ mem to made k =
+    Filling block step count to₀ mem₀ code mem to made k × Reached step to k
+
+abbrev μ-loop : tie.MeasureT-loop
+μ-loop block mem₀ code step count to₀ made₀ k₀ mem to made k =
+    count - k
+
+cast-step : tie.Need-cast-step Inv-loop μ-loop
+cast-step c = search needs
+
+cast-count : tie.Need-cast-count Inv-loop μ-loop
+cast-count c = search needs
+
+cast-to : tie.Need-cast-to Inv-loop μ-loop
+cast-to c = search needs
+
+loop-holds : tie.Need-loop-holds Inv-loop μ-loop
+loop-holds c = ((λ along from. (from, start (c .before .before .before .before .pre .0) (omega (arith, c .before .struct-known2 .given .1 .1 .1 .1)))), reach (omega (arith, c .before .before .struct-known .given .1 .1 .1 .0)) (omega (arith, c .before .before .struct-known .given .1 .1 .0)))
+
+put-requires : tie.Need-put-requires Inv-loop μ-loop
+put-requires c κs = fit (c .before .before .loop .inv .0 0 0 .1)
+
+add-made : tie.Need-add-made Inv-loop μ-loop
+add-made c = record { fits = made-fits (c .before .before .before .before .before .loop .inv .0 0 0 .1) (c .before .before .before .before .loop-test .taken) (omega arith) }
+
+add-to : tie.Need-add-to Inv-loop μ-loop
+add-to c = record { fits = reached-fits (c .before .before .before .before .before .loop .inv .1) (count-fits (c .before .before .before .before .before .loop .inv .0 0 0 .1) (c .before .before .before .before .loop-test .taken)) }
+
+add-k : tie.Need-add-k Inv-loop μ-loop
+add-k c = record { fits = omega (arith, count-fits (c .before .before .before .before .before .loop .inv .0 0 0 .1) (c .before .before .before .before .loop-test .taken)) }
+
+loop-less : tie.Need-loop-less Inv-loop μ-loop
+loop-less c = omega (arith, c .before .before .before .before .loop-test .taken)
+
+loop-again : tie.Need-loop-again Inv-loop μ-loop
+loop-again c = rw (c .before .before .put .ensures) ((λ along from. let g = c .before .before .before .before .before .loop .inv .0 along from in (_, on (g .1) (c .before .before .before .before .loop-test .taken) (fill-is _ _ _ _ _ _ (c .before .before .before .before .before .before .before .before .before .before .pre .1) (c .before .before .before .before .before .before .before .before .before .before .pre .2)))), reached-on (c .before .before .before .before .before .loop .inv .1))
+
+same-length : tie.Need-same-length Inv-loop μ-loop
+same-length c = c .before .loop .inv .0 0 0 .1 .long
+
+returns : tie.Need-returns Inv-loop μ-loop
+returns c = done (c .before .loop .inv .0 (c .before .before .before .before .before .before .args .stretch .along) (c .before .before .before .before .before .before .args .stretch .from) .1) (c .loop-test .left)
+
+pub fill-spec : {M : Type 1} → statement M
+fill-spec =
+    tie.close
+    (tie.spec
+    Inv-loop
+    μ-loop
+    cast-step
+    cast-count
+    cast-to
+    loop-holds
+    put-requires
+    add-made
+    add-to
+    add-k
+    loop-less
+    loop-again
+    same-length
+    returns)
