@@ -14,7 +14,7 @@ further-requires c κs = search needs
 
 returns : tie.Need-returns
 unfolding fontGroup
-returns c = simp (div-one, c .before .before .before .if1 .taken) (cc)
+returns c = simp (div-one, c .before .before .before .if1 .taken, c .before .before .byte-at .ensures, c .further .ensures)
 
 returns-2 : tie.Need-returns-2
 unfolding fontGroup

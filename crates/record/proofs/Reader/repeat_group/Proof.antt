@@ -13,7 +13,7 @@ further-requires c κs = search needs
 
 returns : tie.Need-returns
 unfolding repeatGroup
-returns c = simp (c .before .before .if1 .taken) (cc)
+returns c = simp (c .before .before .if1 .taken, c .before .byte-at .ensures, c .further .ensures)
 
 returns-2 : tie.Need-returns-2
 unfolding repeatGroup
