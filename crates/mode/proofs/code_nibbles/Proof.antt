@@ -20,7 +20,7 @@ add-result c = omega (arith, c .before .code-by .ensures, c .code-by2 .ensures, 
 
 returns : tie.Need-returns
 unfolding codeNibbles
-returns c = cc
+returns c = simp (c .before .code-by .ensures, c .code-by2 .ensures)
 
 pub code-nibbles-spec : {M : Type 1} → statement M
 code-nibbles-spec =

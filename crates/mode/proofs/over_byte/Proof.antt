@@ -20,7 +20,7 @@ add-result c = omega (arith, c .before .over-nibble .ensures, c .over-nibble2 .e
 
 returns : tie.Need-returns
 unfolding over
-returns c = cc
+returns c = simp (c .before .over-nibble .ensures, c .over-nibble2 .ensures)
 
 pub over-byte-spec : {M : Type 1} → statement M
 over-byte-spec =

@@ -18,7 +18,7 @@ accesses-requires c κs = search needs
 
 returns : tie.Need-returns
 unfolding strokeOf
-returns c = cc
+returns c = simp (c .before .before .before .writes .ensures, c .before .before .value .ensures, c .before .code-in .ensures, c .accesses .ensures)
 
 pub stroke-of-spec : {M : Type 1} → statement M
 stroke-of-spec =
