@@ -13,7 +13,7 @@ sound-requires-3 : tie.Need-sound-requires-3
 sound-requires-3 c κs = search needs
 
 returns : tie.Need-returns
-returns c = cc
+returns c = simp (c .before .before .sound .ensures, c .before .sound2 .ensures, c .sound3 .ensures)
 
 pub sound-spec : {M : Type 1} → statement M
 sound-spec = tie.close (tie.spec sound-requires sound-requires-2 sound-requires-3 returns)
