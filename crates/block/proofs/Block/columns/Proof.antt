@@ -18,7 +18,7 @@ mul-result c = rw (c .before .width .ensures, c .zoom-x .ensures) (record { fits
 
 returns : tie.Need-returns
 unfolding columnsOf
-returns c = cc
+returns c = simp (c .before .width .ensures, c .zoom-x .ensures)
 
 pub columns-spec : {M : Type 1} → statement M
 columns-spec = tie.close (tie.spec width-requires zoom-x-requires mul-result returns)

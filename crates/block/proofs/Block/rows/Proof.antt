@@ -21,7 +21,7 @@ mul-result c = rw (c .zoom-y .ensures) (record { fits = omega (arith, rows-small
 
 returns : tie.Need-returns
 unfolding rowsOf
-returns c = cc
+returns c = simp (c .zoom-y .ensures)
 
 pub rows-spec : {M : Type 1} → statement M
 rows-spec = tie.close (tie.spec cast-result add-result zoom-y-requires mul-result returns)

@@ -29,7 +29,7 @@ address-requires c κs = search needs
 
 returns : tie.Need-returns
 unfolding sourceAddress
-returns c = cc
+returns c = simp (c .address .ensures, c .before .pattern-width .ensures, c .before .before .zoom-x .ensures, c .before .before .before .zoom-y .ensures)
 
 pub source-spec : {M : Type 1} → statement M
 source-spec =
