@@ -10,7 +10,7 @@ columns-requires : tie.Need-columns-requires
 columns-requires c κs = search needs
 
 returns : tie.Need-returns
-returns c = cc
+returns c = simp (c .before .before .before .rows .ensures, c .before .columns .ensures)
 
 pub inside-spec : {M : Type 1} → statement M
 inside-spec = tie.close (tie.spec rows-requires columns-requires returns)

@@ -9,7 +9,7 @@ placed-requires c κs = search needs
 
 returns : tie.Need-returns
 unfolding soundBlitter
-returns c = cc
+returns c = simp (c .placed .ensures)
 
 pub sound-spec : {M : Type 1} → statement M
 sound-spec = tie.close (tie.spec placed-requires returns)
