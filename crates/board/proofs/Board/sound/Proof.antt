@@ -14,7 +14,7 @@ sound-requires-2 c κs = search needs
 
 returns : tie.Need-returns
 unfolding soundBoard
-returns c = cc
+returns c = simp (c .before .sound .ensures, c .sound2 .ensures)
 
 pub sound-spec : {M : Type 1} → statement M
 sound-spec = tie.close (tie.spec sound-requires sound-requires-2 returns)
