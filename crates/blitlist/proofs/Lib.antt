@@ -1,0 +1,2 @@
+-- Laws of the lists that the programs lay.
+mod Once

@@ -1,0 +1,2 @@
+-- A blitter list that a program lays and starts.
+pub mod Laid
