@@ -1,8 +1,8 @@
--- `edges::lines` is safe and ends: ten lines are counted down. Assumes nothing.
+-- `plan_cases::lines` is safe and ends: ten lines are counted down. Assumes nothing.
 use Prim.Native.Nat.{_≤_}
 use borrow.Author.Needs.{needs}
-use Rattle.edges.proofs.lines.Statement.{statement}
-use Rattle.edges.proofs.lines.Tie as tie
+use Rattle.plan_cases.proofs.lines.Statement.{statement}
+use Rattle.plan_cases.proofs.lines.Tie as tie
 
 abbrev Inv-loop : tie.InvT-loop
 Inv-loop mem frame₀ left₀ t5 frame left = left ≤ 10

@@ -1,10 +1,10 @@
--- `frame_edges::bytes` is safe and ends: the measure is what is left of the list. Assumes nothing.
+-- `list_cases::bytes` is safe and ends: the measure is what is left of the list. Assumes nothing.
 use mathlib.Core.Path.{_≡_, refl}
 use Prim.Native.Nat.{_-_}
 use native.Mathlib.Omega.{arith}
 use lib.ListN.{length}
-use Rattle.frame_edges.proofs.bytes.Statement.{statement}
-use Rattle.frame_edges.proofs.bytes.Tie as tie
+use Rattle.list_cases.proofs.bytes.Statement.{statement}
+use Rattle.list_cases.proofs.bytes.Tie as tie
 
 abbrev Inv-loop : tie.InvT-loop
 Inv-loop list i₀ i-end i = i-end ≡ length list
