@@ -1,12 +1,8 @@
-// The lines of a frame as text, for the programs that show them. A line's settings are printed as
-//   MODE ADDRESS step N scroll H V font F counter N; map on|off ADDRESS step N scroll H V field WxH counter N;
-//   width N palettes OVERLAY PLAYFIELD priority P
-// with addresses, font and priority in hex.
+// The lines of a frame as text, for the programs that show them: those that are all alike as one, or as many as show each band.
 use board::Board;
 use frame::Frame;
 use frame::FrameStart;
 use frame::LineReport;
-use refusal::Refusal;
 use settings::Look;
 use settings::Map;
 use settings::Overlay;
@@ -22,90 +18,6 @@ struct Run {
 struct Sample {
     frame: Frame,
     before: Settings,
-}
-
-fn pair(word: &[u8], n: u16) {
-    print::text(word);
-    print::number(n as u64);
-}
-
-// An unsound mode is printed as its number.
-fn mode(m: u8) {
-    match m {
-        0 => print::text(b"off "),
-        1 => print::text(b"text "),
-        2 => print::text(b"SR "),
-        3 => print::text(b"HR "),
-        4 => print::text(b"LR "),
-        _ => pair(b"mode ", m as u16),
-    }
-}
-
-fn overlay(o: Overlay) {
-    mode(o.mode);
-    print::address(o.address);
-    pair(b" step ", o.step);
-    pair(b" scroll ", o.hscroll as u16);
-    pair(b" ", o.vscroll as u16);
-    print::text(b" font ");
-    print::hex(o.font);
-    pair(b" counter ", o.counter as u16);
-}
-
-fn flag(on: bool, yes: &[u8], no: &[u8]) {
-    if on {
-        print::text(yes);
-        return;
-    }
-    print::text(no);
-}
-
-fn map(m: Map) {
-    flag(m.on, b"; map on ", b"; map off ");
-    print::address(m.address);
-    pair(b" step ", m.step);
-    pair(b" scroll ", m.hscroll as u16);
-    pair(b" ", m.vscroll as u16);
-    pair(b" field ", m.width as u16);
-    pair(b"x", m.height as u16);
-    pair(b" counter ", m.counter as u16);
-}
-
-fn look(l: Look) {
-    pair(b"; width ", l.width as u16);
-    pair(b" palettes ", l.palette as u16);
-    pair(b" ", l.playfield as u16);
-    print::text(b" priority ");
-    print::hex(l.priority);
-    print::text(b"\n");
-}
-
-fn settings(s: Settings) {
-    overlay(s.overlay);
-    map(s.map);
-    look(s.look);
-}
-
-// A line, or lines that are all alike.
-fn lines(from: u16, to: u16, s: Settings) {
-    if from == to {
-        pair(b"line ", to);
-    } else {
-        pair(b"lines ", from);
-        pair(b" to ", to);
-    }
-    print::text(b": ");
-    settings(s);
-}
-
-// What a frame holds beside its settings.
-fn state(f: Frame) {
-    pair(b"frame: line ", f.line);
-    pair(b" repeat ", f.repeat as u16);
-    print::text(b" list ");
-    print::address(f.position);
-    flag(f.on, b" on", b" not on");
-    flag(f.ended, b" ended\n", b"\n");
 }
 
 fn same_overlay(a: Overlay, b: Overlay) -> bool {
@@ -176,12 +88,6 @@ fn next_alike(frame: Frame, mem: &[u8], s: Settings, moving: bool) -> bool {
     }
 }
 
-fn refused(line: u16, why: Refusal) {
-    pair(b"line ", line);
-    print::text(b": ");
-    print::refused(why, 0);
-}
-
 // One line more; it is printed where the run ends.
 fn run_line(run: Run, mem: &[u8], last: bool) -> Run {
     let frame = run.frame;
@@ -191,14 +97,14 @@ fn run_line(run: Run, mem: &[u8], last: bool) -> Run {
     let report = next.report;
     match report {
         LineReport::Refused(why) => {
-            refused(frame.line, why);
+            frametext::refused(frame.line, why);
             run
         }
         LineReport::Line(s) => {
             if !last & next_alike(after, mem, s, false) {
                 return Run { frame: after, from };
             }
-            lines(from, frame.line, s);
+            frametext::lines(from, frame.line, s);
             Run {
                 frame: after,
                 from: after.line,
@@ -216,7 +122,7 @@ pub fn runs(frame: Frame, mem: &[u8], count: u16) {
     for i in 0..count {
         run = run_line(run, mem, i + 1 == count);
     }
-    state(run.frame);
+    frametext::state(run.frame);
 }
 
 // One line more; it is printed where a band begins or ends, and each ninth line, so that every counter is met.
@@ -227,14 +133,14 @@ fn sample_line(sample: Sample, mem: &[u8]) -> Sample {
     let report = next.report;
     match report {
         LineReport::Refused(why) => {
-            refused(frame.line, why);
+            frametext::refused(frame.line, why);
             sample
         }
         LineReport::Line(s) => {
             let first = !alike(sample.before, s, true);
             let last = !next_alike(after, mem, s, true);
             if first | last | (frame.line % 9 == 0) {
-                lines(frame.line, frame.line, s);
+                frametext::lines(frame.line, frame.line, s);
             }
             Sample {
                 frame: after,
@@ -255,6 +161,15 @@ fn samples(frame: Frame, mem: &[u8]) {
     }
 }
 
+// Whether a refusal hands the frame back as it was.
+fn handed_back(frame: Frame, after: Frame) {
+    if same_frame(frame, after) {
+        print::text(b"the frame as it was, ");
+        return;
+    }
+    print::text(b"another frame, ");
+}
+
 // A frame's next line, and the frame that comes back.
 pub fn ask(frame: Frame, mem: &[u8]) {
     let next = frame.next_line(mem);
@@ -262,18 +177,12 @@ pub fn ask(frame: Frame, mem: &[u8]) {
     let report = next.report;
     match report {
         LineReport::Refused(why) => {
-            flag(
-                same_frame(frame, after),
-                b"the frame as it was, ",
-                b"another frame, ",
-            );
+            handed_back(frame, after);
             print::refused(why, 0);
         }
         LineReport::Line(s) => {
-            lines(frame.line, frame.line, s);
-            state(after);
-            print::text(b"holds: ");
-            settings(after.settings);
+            frametext::lines(frame.line, frame.line, s);
+            frametext::holds(after);
         }
     }
 }

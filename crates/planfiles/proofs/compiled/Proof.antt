@@ -1,12 +1,12 @@
--- `shown::compiled` meets its contract: it is safe, since a compiled list fits the buffer. Assumes nothing.
+-- `planfiles::compiled` meets its contract: it is safe, since a compiled list fits the buffer. Assumes nothing.
 use mathlib.Core.Path.{sym, ap, _∙_}
 use native.Mathlib.Omega.{arith}
 use borrow.Author.Needs.{needs}
 use denote.Ref.{now}
 use Rattle.plan.proofs.Compiling.{accepted}
 use Rattle.plan.specs.Compile.{compileTold}
-use Rattle.shown.proofs.compiled.Statement.{statement}
-use Rattle.shown.proofs.compiled.Tie as tie
+use Rattle.planfiles.proofs.compiled.Statement.{statement}
+use Rattle.planfiles.proofs.compiled.Tie as tie
 
 compile-requires : tie.Need-compile-requires
 compile-requires c κs = search needs

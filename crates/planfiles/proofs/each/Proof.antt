@@ -1,14 +1,14 @@
--- `shown::main` is safe and ends: the measure is what is left of the arguments. Assumes nothing.
+-- `planfiles::each` is safe and ends: the measure is what is left of the arguments. Assumes nothing.
 use Prim.Native.Nat.{_-_}
 use native.Mathlib.Omega.{arith}
-use Rattle.shown.proofs.main.Statement.{statement}
-use Rattle.shown.proofs.main.Tie as tie
+use Rattle.planfiles.proofs.each.Statement.{statement}
+use Rattle.planfiles.proofs.each.Tie as tie
 
 abbrev Inv-loop : tie.InvT-loop
-Inv-loop n i₀ i = Unit {0}
+Inv-loop show n i₀ i = Unit {0}
 
 abbrev μ-loop : tie.MeasureT-loop
-μ-loop n i₀ i = n - i
+μ-loop show n i₀ i = n - i
 
 arg-count-requires : tie.Need-arg-count-requires Inv-loop μ-loop
 arg-count-requires c κs = tt
@@ -31,5 +31,5 @@ loop-again c = tt
 returns : tie.Need-returns Inv-loop μ-loop
 returns c = tt
 
-pub main-spec : {M : Type 1} → statement M
-main-spec = tie.close (tie.spec Inv-loop μ-loop arg-count-requires loop-holds one-requires add-i loop-less loop-again returns)
+pub each-spec : {M : Type 1} → statement M
+each-spec = tie.close (tie.spec Inv-loop μ-loop arg-count-requires loop-holds one-requires add-i loop-less loop-again returns)
