@@ -149,23 +149,33 @@ fn steps(mem: &mut [u8]) {
     stepped(b"step y FF 0F", mem, 0x1E, 0xFF, 0x0F, 0x2DFC);
 }
 
-// All of them, in a memory of their own: the source's bytes, and one that a step in y must spare.
+// Modes and collisions.
+fn struck(mem: &mut [u8]) {
+    modes(mem, 0x50);
+    modes(mem, 0);
+    masks(mem);
+    before(mem);
+    nibbles(mem);
+    other_nibble(mem);
+    two_hits(mem);
+    mode_7(mem);
+}
+
+// Zoom, pattern and steps. What is copied stands at 2000h; 16381 holds a byte that a step must spare.
+fn shaped(mem: &mut [u8]) {
+    vram::install(mem, b"\x01\x02\x03\x04", 0x2000);
+    vram::install(mem, b"\x01", 16381);
+    zoomed(b"zoom 10", mem, 0x10);
+    zoomed(b"zoom 89", mem, 0x89);
+    patterns(mem);
+    anew(mem);
+    over_itself(mem);
+    steps(mem);
+}
+
+// All of them, in a memory of their own.
 pub fn all() {
     let mut mem = [0u8; 16384];
-    modes(&mut mem, 0x50);
-    modes(&mut mem, 0);
-    masks(&mut mem);
-    before(&mut mem);
-    nibbles(&mut mem);
-    other_nibble(&mut mem);
-    two_hits(&mut mem);
-    mode_7(&mut mem);
-    vram::install(&mut mem, b"\x01\x02\x03\x04", 0x2000);
-    zoomed(b"zoom 10", &mut mem, 0x10);
-    zoomed(b"zoom 89", &mut mem, 0x89);
-    patterns(&mut mem);
-    anew(&mut mem);
-    over_itself(&mut mem);
-    vram::install(&mut mem, b"\x01", 16381);
-    steps(&mut mem);
+    struck(&mut mem);
+    shaped(&mut mem);
 }

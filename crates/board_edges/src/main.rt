@@ -140,30 +140,30 @@ fn compared(one: &mut [u8], two: &mut [u8]) {
     }
 }
 
+// Runs to their end, and what stands in their way.
+fn runs(mem: &mut [u8]) {
+    copies(mem);
+    list(b"budget 0", mem, 0);
+    ends(mem);
+    budgets(mem);
+    largest(mem);
+    refusals(mem);
+    later_block(mem);
+    own_control(mem);
+}
+
+// Lists over the top of memory.
+fn tops(mem: &mut [u8]) {
+    let high = blitlist::started(0xF8, 0xFF, 7);
+    wraps(b"list at 524280", mem, 524280, high, 0x11);
+    let low = blitlist::started(0xF8, 0x3F, 0);
+    wraps(b"list at 16376", mem, 16376, low, 0x22);
+}
+
 fn main() {
     let mut mem = [0u8; 16384];
-    copies(&mut mem);
-    list(b"budget 0", &mut mem, 0);
-    ends(&mut mem);
-    budgets(&mut mem);
-    largest(&mut mem);
-    refusals(&mut mem);
-    later_block(&mut mem);
-    own_control(&mut mem);
-    wraps(
-        b"list at 524280",
-        &mut mem,
-        524280,
-        blitlist::started(0xF8, 0xFF, 7),
-        0x11,
-    );
-    wraps(
-        b"list at 16376",
-        &mut mem,
-        16376,
-        blitlist::started(0xF8, 0x3F, 0),
-        0x22,
-    );
+    runs(&mut mem);
+    tops(&mut mem);
     start_cases::all();
     block_cases::all();
     let mut one = [0u8; 16384];

@@ -155,16 +155,20 @@ fn backwards(mem: &mut [u8]) {
     cells(mem, 0x34FE);
 }
 
+fn traps(mem: &mut [u8]) {
+    trap_list(mem);
+    trap_mask(mem);
+    trap_zoom(mem);
+    trap_rows(mem);
+}
+
 fn main() {
     let mut mem = [0u8; 16384];
     steps_and_codes();
     copy_and_fill(&mut mem);
     lengths(&mut mem);
     budgets(&mut mem);
-    trap_list(&mut mem);
-    trap_mask(&mut mem);
-    trap_zoom(&mut mem);
-    trap_rows(&mut mem);
+    traps(&mut mem);
     plan_cases::all();
     backwards(&mut mem);
 }

@@ -204,6 +204,12 @@ fn lengths(mem: &[u8]) {
     ask_first(b"L 100, line 241: ", f, mem, 100);
 }
 
+// The largest memory, of which each case lends the first bytes.
+fn firsts() {
+    let mem = [0u8; 524288];
+    lengths(&mem);
+}
+
 fn start(title: &[u8], board: Board) {
     print::text(title);
     let r = Frame::start(board);
@@ -239,7 +245,6 @@ fn main() {
     unsound_map();
     unsound_counter();
     unsound_look();
-    let mem = [0u8; 524288];
-    lengths(&mem);
+    firsts();
     boards();
 }
