@@ -19,8 +19,8 @@ use Rattle.frame.specs.Frame.{lineAnswer, lineFrame, startAnswer}
 use Rattle.plan.specs.Compile.{compileTold, checkedOf, fitting, compileAnswer, compileOutput}
 use Rattle.plan.specs.Plan.{parse}
 use Rattle.words.specs.Words.{laid}
-use Rattle.words.specs.Board.{boardOf, boardWords, boardFits}
-use Rattle.words.specs.Frame.{settingsWords, frameOf, frameWords, frameFits}
+use Rattle.boardwords.specs.Board.{boardOf, boardWords, boardFits}
+use Rattle.framewords.specs.Frame.{settingsWords, frameOf, frameWords, frameFits}
 use Rattle.capi.specs.Calls.{numberTold, reported, countWords, newCall, newWords, writeCall, writeWords, readCall, resetCall, resetWords, tickCall, tickWords, tickBytes, tickReport, runCall, runWords, runBytes, runReport, startCall, lineCall, lineWords, lineSettings, compileCall, compileBytes, valueTold, compileReport}
 use Rattle.capi.proofs.Told.{past, as-number, as-change, as-report, done-number, done-change, done-report, kept-twice}
 

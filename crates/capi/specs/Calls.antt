@@ -12,8 +12,8 @@ use Rattle.frame.specs.declared.Frame.{Frame}
 use Rattle.frame.specs.Frame.{lineAnswer, lineFrame, startAnswer}
 use Rattle.plan.specs.Compile.{compileAnswer, compileOutput}
 use Rattle.words.specs.Words.{laid}
-use Rattle.words.specs.Board.{boardOf, boardWords, boardFits}
-use Rattle.words.specs.Frame.{settingsWords, frameOf, frameWords, frameFits}
+use Rattle.boardwords.specs.Board.{boardOf, boardWords, boardFits}
+use Rattle.framewords.specs.Frame.{settingsWords, frameOf, frameWords, frameFits}
 
 -- "0 where it was done, or the number of its refusal"
 abbrev pub numberTold : {X : Type 0} → Told X → ℕ

@@ -5,7 +5,7 @@ ghost use Rattle.refusal.specs.Sheet.{outcomeTold, kept};
 ghost use Rattle.vram.specs.Install.{installAnswer, installMemory};
 ghost use Rattle.engine.specs.Run.{runTold};
 ghost use Rattle.words.specs.Words.{laid};
-ghost use Rattle.words.specs.Board.{boardWords};
+ghost use Rattle.boardwords.specs.Board.{boardWords};
 ghost use Rattle.capi.specs.Calls.{
   numberTold,
   reported,
@@ -54,7 +54,7 @@ fn settle(board: &mut [u32], changed: Changed) -> u32
     let report = changed.report;
     match report {
         Outcome::Done => {
-            words::put_board(board, changed.board);
+            boardwords::put_board(board, changed.board);
             0
         }
         Outcome::Refused(why) => why.number() as u32,
@@ -70,7 +70,7 @@ fn settle_run(board: &mut [u32], report: &mut [u32], ran: Ran) -> u32
     let told = ran.report;
     match told {
         RunReport::Ran { ticks, accesses } => {
-            words::put_board(board, ran.board);
+            boardwords::put_board(board, ran.board);
             words::lay(report, &[ticks, accesses]);
             0
         }
@@ -87,7 +87,7 @@ pub extern "C" fn deskboard_new(board: &mut [u32]) -> u32
         return 255;
     }
     let b = Board::new();
-    words::put_board(board, b);
+    boardwords::put_board(board, b);
     0
 }
 
@@ -99,10 +99,10 @@ pub extern "C" fn deskboard_write(board: &mut [u32], offset: u32, value: u8) -> 
     if board.len() < 35 {
         return 255;
     }
-    if !words::board_fits(board) {
+    if !boardwords::board_fits(board) {
         return 15;
     }
-    let b = words::board_of(board);
+    let b = boardwords::board_of(board);
     let changed = b.write(offset, value);
     settle(board, changed)
 }
@@ -118,10 +118,10 @@ pub extern "C" fn deskboard_read(board: &[u32], offset: u32, report: &mut [u32])
     if report.len() < 1 {
         return 255;
     }
-    if !words::board_fits(board) {
+    if !boardwords::board_fits(board) {
         return 15;
     }
-    let b = words::board_of(board);
+    let b = boardwords::board_of(board);
     let told = b.read(offset);
     match told {
         ReadReport::Byte(value) => {
@@ -140,10 +140,10 @@ pub extern "C" fn deskboard_reset(board: &mut [u32]) -> u32
     if board.len() < 35 {
         return 255;
     }
-    if !words::board_fits(board) {
+    if !boardwords::board_fits(board) {
         return 15;
     }
-    let b = words::board_of(board);
+    let b = boardwords::board_of(board);
     let changed = b.reset();
     settle(board, changed)
 }
@@ -164,10 +164,10 @@ pub extern "C" fn deskboard_tick(board: &mut [u32], mem: &mut [u8], report: &mut
     if !vram::good_length(mem.len()) {
         return 1;
     }
-    if !words::board_fits(board) {
+    if !boardwords::board_fits(board) {
         return 15;
     }
-    let b = words::board_of(board);
+    let b = boardwords::board_of(board);
     let ran = b.tick(mem);
     settle_run(board, report, ran)
 }
@@ -193,10 +193,10 @@ pub extern "C" fn deskboard_run(
     if !vram::good_length(mem.len()) {
         return 1;
     }
-    if !words::board_fits(board) {
+    if !boardwords::board_fits(board) {
         return 15;
     }
-    let b = words::board_of(board);
+    let b = boardwords::board_of(board);
     let ran = b.run(mem, budget);
     settle_run(board, report, ran)
 }
@@ -212,14 +212,14 @@ pub extern "C" fn deskboard_start(board: &[u32], frame: &mut [u32]) -> u32
     if frame.len() < 24 {
         return 255;
     }
-    if !words::board_fits(board) {
+    if !boardwords::board_fits(board) {
         return 15;
     }
-    let b = words::board_of(board);
+    let b = boardwords::board_of(board);
     let told = Frame::start(b);
     match told {
         FrameStart::Started(f) => {
-            words::put_frame(frame, f);
+            framewords::put_frame(frame, f);
             0
         }
         FrameStart::Refused(why) => why.number() as u32,
@@ -241,16 +241,16 @@ pub extern "C" fn deskboard_next_line(frame: &mut [u32], mem: &[u8], settings: &
     if !vram::good_length(mem.len()) {
         return 1;
     }
-    if !words::frame_fits(frame) {
+    if !framewords::frame_fits(frame) {
         return 15;
     }
-    let f = words::frame_of(frame);
+    let f = framewords::frame_of(frame);
     let next = f.next_line(mem);
     let told = next.report;
     match told {
         LineReport::Line(s) => {
-            words::put_frame(frame, next.frame);
-            words::put_settings(settings, s);
+            framewords::put_frame(frame, next.frame);
+            framewords::put_settings(settings, s);
             0
         }
         LineReport::Refused(why) => why.number() as u32,

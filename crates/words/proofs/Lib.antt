@@ -1,6 +1,4 @@
 -- Laws of words.
 pub mod Within
-mod Laid
-mod Parts
-pub mod Crossing
+pub mod Laid
 mod Once

@@ -1,4 +1,2 @@
--- States as words, as include/deskboard.h orders them.
+-- A lent buffer of words, as include/deskboard.h says it.
 pub mod Words
-pub mod Board
-pub mod Frame

@@ -3,7 +3,7 @@ use mathlib.Core.Bool.{Bool, true, cond, _&&_}
 use mathlib.Core.List.{List, [], _∷_, _++_}
 use Prim.Native.Nat.{ℕ, _+_, _%_}
 use lib.Dec.{eqb, leb}
-use lib.ListN.{length, take, drop, getD}
+use lib.ListN.{length, drop, getD}
 
 -- the word at a place; past the end there is 0
 abbrev pub wordAt : List ℕ → ℕ → ℕ
@@ -37,10 +37,6 @@ aWord = 4294967295
 unfoldable pub within : List ℕ → List ℕ → ℕ → Bool
 within [] words k = true
 within (most ∷ more) words k = leb (wordAt words k) most && within more words (k + 1)
-
--- words copied to a place among others
-abbrev pub copied : ℕ → List ℕ → List ℕ → List ℕ
-copied from new old = take from old ++ (new ++ drop (from + length new) old)
 
 -- a state's words laid over what is lent: "Words past the last stay as they are". Where there is no room nothing is written
 abbrev pub laid : List ℕ → List ℕ → List ℕ

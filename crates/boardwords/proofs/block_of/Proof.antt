@@ -1,0 +1,73 @@
+-- `boardwords::block_of` meets its contract: each field from its word. Assumes nothing.
+use Rattle.boardwords.specs.Board.{blockOf}
+use borrow.Author.Needs.{needs}
+use Rattle.boardwords.proofs.block_of.Statement.{statement}
+use Rattle.boardwords.proofs.block_of.Tie as tie
+
+side-of-requires : tie.Need-side-of-requires
+side-of-requires c κs = search needs
+
+side-of-requires-2 : tie.Need-side-of-requires-2
+side-of-requires-2 c κs = search needs
+
+byte-requires : tie.Need-byte-requires
+byte-requires c κs = search needs
+
+byte-requires-2 : tie.Need-byte-requires-2
+byte-requires-2 c κs = search needs
+
+byte-requires-3 : tie.Need-byte-requires-3
+byte-requires-3 c κs = search needs
+
+byte-requires-4 : tie.Need-byte-requires-4
+byte-requires-4 c κs = search needs
+
+byte-requires-5 : tie.Need-byte-requires-5
+byte-requires-5 c κs = search needs
+
+byte-requires-6 : tie.Need-byte-requires-6
+byte-requires-6 c κs = search needs
+
+byte-requires-7 : tie.Need-byte-requires-7
+byte-requires-7 c κs = search needs
+
+byte-requires-8 : tie.Need-byte-requires-8
+byte-requires-8 c κs = search needs
+
+byte-requires-9 : tie.Need-byte-requires-9
+byte-requires-9 c κs = search needs
+
+returns : tie.Need-returns
+unfolding blockOf
+returns c =
+    λ i.
+    record {
+      source = c .before .before .before .before .before .before .before .before .before .before .side-of .ensures i;
+      dest = c .before .before .before .before .before .before .before .before .before .side-of2 .ensures i;
+      width0 = c .before .before .before .before .before .before .before .before .byte .ensures i;
+      width1 = c .before .before .before .before .before .before .before .byte2 .ensures i;
+      height = c .before .before .before .before .before .before .byte3 .ensures i;
+      andmask = c .before .before .before .before .before .byte4 .ensures i;
+      xormask = c .before .before .before .before .byte5 .ensures i;
+      hitmask = c .before .before .before .byte6 .ensures i;
+      zoom = c .before .before .byte7 .ensures i;
+      pattern = c .before .byte8 .ensures i;
+      control = c .byte9 .ensures i;
+    }
+
+pub block-of-spec : {M : Type 1} → statement M
+block-of-spec =
+    tie.close
+    (tie.spec
+    side-of-requires
+    side-of-requires-2
+    byte-requires
+    byte-requires-2
+    byte-requires-3
+    byte-requires-4
+    byte-requires-5
+    byte-requires-6
+    byte-requires-7
+    byte-requires-8
+    byte-requires-9
+    returns)

@@ -1,0 +1,23 @@
+-- `boardwords::board_of` meets its contract: each field from its word. Assumes nothing.
+use Rattle.boardwords.specs.Board.{boardOf}
+use borrow.Author.Needs.{needs}
+use Rattle.boardwords.proofs.board_of.Statement.{statement}
+use Rattle.boardwords.proofs.board_of.Tie as tie
+
+ports-of-requires : tie.Need-ports-of-requires
+ports-of-requires c κs = search needs
+
+blitter-of-requires : tie.Need-blitter-of-requires
+blitter-of-requires c κs = search needs
+
+returns : tie.Need-returns
+unfolding boardOf
+returns c =
+    λ i.
+    record {
+      ports = c .before .ports-of .ensures i;
+      blitter = c .blitter-of .ensures i;
+    }
+
+pub board-of-spec : {M : Type 1} → statement M
+board-of-spec = tie.close (tie.spec ports-of-requires blitter-of-requires returns)

@@ -1,0 +1,53 @@
+-- `boardwords::ports_of` meets its contract: each field from its word. Assumes nothing.
+use Rattle.boardwords.specs.Board.{portsOf}
+use borrow.Author.Needs.{needs}
+use Rattle.boardwords.proofs.ports_of.Statement.{statement}
+use Rattle.boardwords.proofs.ports_of.Tie as tie
+
+byte-requires : tie.Need-byte-requires
+byte-requires c κs = search needs
+
+word-requires : tie.Need-word-requires
+word-requires c κs = search needs
+
+word-requires-2 : tie.Need-word-requires-2
+word-requires-2 c κs = search needs
+
+byte-requires-2 : tie.Need-byte-requires-2
+byte-requires-2 c κs = search needs
+
+byte-requires-3 : tie.Need-byte-requires-3
+byte-requires-3 c κs = search needs
+
+byte-requires-4 : tie.Need-byte-requires-4
+byte-requires-4 c κs = search needs
+
+byte-requires-5 : tie.Need-byte-requires-5
+byte-requires-5 c κs = search needs
+
+returns : tie.Need-returns
+unfolding portsOf
+returns c =
+    λ i.
+    record {
+      video = c .before .before .before .before .before .before .byte .ensures i;
+      xdladr = c .before .before .before .before .before .word .ensures i;
+      bladr = c .before .before .before .before .word2 .ensures i;
+      p0 = c .before .before .before .byte2 .ensures i;
+      p1 = c .before .before .byte3 .ensures i;
+      p2 = c .before .byte4 .ensures i;
+      p3 = c .byte5 .ensures i;
+    }
+
+pub ports-of-spec : {M : Type 1} → statement M
+ports-of-spec =
+    tie.close
+    (tie.spec
+    byte-requires
+    word-requires
+    word-requires-2
+    byte-requires-2
+    byte-requires-3
+    byte-requires-4
+    byte-requires-5
+    returns)

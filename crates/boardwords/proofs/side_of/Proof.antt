@@ -1,0 +1,68 @@
+-- `boardwords::side_of` meets its contract: each field from its word. Assumes nothing.
+use Rattle.boardwords.specs.Board.{sideOf}
+use borrow.Author.Needs.{needs}
+use Rattle.boardwords.proofs.side_of.Statement.{statement}
+use Rattle.boardwords.proofs.side_of.Tie as tie
+
+byte-requires : tie.Need-byte-requires
+byte-requires c κs = search needs
+
+add-byte : tie.Need-add-byte
+add-byte c = search needs
+
+byte-requires-2 : tie.Need-byte-requires-2
+byte-requires-2 c κs = search needs
+
+add-byte-2 : tie.Need-add-byte-2
+add-byte-2 c = search needs
+
+byte-requires-3 : tie.Need-byte-requires-3
+byte-requires-3 c κs = search needs
+
+add-byte-3 : tie.Need-add-byte-3
+add-byte-3 c = search needs
+
+byte-requires-4 : tie.Need-byte-requires-4
+byte-requires-4 c κs = search needs
+
+add-byte-4 : tie.Need-add-byte-4
+add-byte-4 c = search needs
+
+byte-requires-5 : tie.Need-byte-requires-5
+byte-requires-5 c κs = search needs
+
+add-byte-5 : tie.Need-add-byte-5
+add-byte-5 c = search needs
+
+byte-requires-6 : tie.Need-byte-requires-6
+byte-requires-6 c κs = search needs
+
+returns : tie.Need-returns
+unfolding sideOf
+returns c =
+    λ i.
+    record {
+      adr0 = c .before .before .before .before .before .byte .ensures i;
+      adr1 = c .before .before .before .before .byte2 .ensures i;
+      adr2 = c .before .before .before .byte3 .ensures i;
+      y0 = c .before .before .byte4 .ensures i;
+      y1 = c .before .byte5 .ensures i;
+      x = c .byte6 .ensures i;
+    }
+
+pub side-of-spec : {M : Type 1} → statement M
+side-of-spec =
+    tie.close
+    (tie.spec
+    byte-requires
+    add-byte
+    byte-requires-2
+    add-byte-2
+    byte-requires-3
+    add-byte-3
+    byte-requires-4
+    add-byte-4
+    byte-requires-5
+    add-byte-5
+    byte-requires-6
+    returns)

@@ -1,0 +1,3 @@
+-- Laws of a frame's words.
+pub mod Crossing
+mod Once

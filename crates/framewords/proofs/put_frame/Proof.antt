@@ -1,0 +1,69 @@
+-- `framewords::put_frame` meets its contract: five words behind those of the settings. Assumes nothing.
+use borrow.Author.Tests.{lt-leb}
+use Rattle.laws.proofs.Choice.{bool-byte}
+use Rattle.words.proofs.Laid.{laid-on}
+use Rattle.framewords.specs.Frame.{settingsWords, placeWords, frameWords}
+use borrow.Author.Needs.{needs}
+use Rattle.framewords.proofs.put_frame.Statement.{statement}
+use Rattle.framewords.proofs.put_frame.Tie as tie
+
+cast-t4 : tie.Need-cast-t4
+cast-t4 c = search needs
+
+cast-t5 : tie.Need-cast-t5
+cast-t5 c = search needs
+
+cast-t6 : tie.Need-cast-t6
+cast-t6 c = search needs
+
+cast-t7 : tie.Need-cast-t7
+cast-t7 c = search needs
+
+returns : tie.Need-returns
+unfolding frameWords settingsWords
+returns c = simp (lt-leb _ _ (c .if1 .taken))
+
+put-settings-requires : tie.Need-put-settings-requires
+put-settings-requires c κs = search needs
+
+sub-lay : tie.Need-sub-lay
+sub-lay c = search needs
+
+part-lay-start : tie.Need-part-lay-start
+part-lay-start c = search needs
+
+part-lay-end : tie.Need-part-lay-end
+part-lay-end c = search needs
+
+slice-aggregate-lay : tie.Need-slice-aggregate-lay
+slice-aggregate-lay c = search needs
+
+lay-requires : tie.Need-lay-requires
+lay-requires c κs = search needs
+
+same-length : tie.Need-same-length
+same-length c = search needs
+
+returns-2 : tie.Need-returns-2
+unfolding frameWords settingsWords
+returns-2 c =
+    let f = c .before .before .before .before .before .before .before .before .before .before .before .before .before .before .before .args .frame in
+    laid-on (settingsWords (f .settings)) (placeWords f) (c .before .before .before .before .before .before .before .before .before .before .before .before .before .before .before .args .words .now) _ _ (c .before .before .before .before .before .before .before .before .before .if1 .left) (c .before .before .before .before .before .before .before .put-settings .ensures) (simp bool-byte at (c .before .before .lay .ensures))
+
+pub put-frame-spec : {M : Type 1} → statement M
+put-frame-spec =
+    tie.close
+    (tie.spec
+    cast-t4
+    cast-t5
+    cast-t6
+    cast-t7
+    returns
+    put-settings-requires
+    sub-lay
+    part-lay-start
+    part-lay-end
+    slice-aggregate-lay
+    lay-requires
+    same-length
+    returns-2)

@@ -1,0 +1,28 @@
+-- `framewords::settings_of` meets its contract: each field from its word. Assumes nothing.
+use Rattle.framewords.specs.Frame.{settingsOf}
+use borrow.Author.Needs.{needs}
+use Rattle.framewords.proofs.settings_of.Statement.{statement}
+use Rattle.framewords.proofs.settings_of.Tie as tie
+
+overlay-of-requires : tie.Need-overlay-of-requires
+overlay-of-requires c κs = search needs
+
+map-of-requires : tie.Need-map-of-requires
+map-of-requires c κs = search needs
+
+look-of-requires : tie.Need-look-of-requires
+look-of-requires c κs = search needs
+
+returns : tie.Need-returns
+unfolding settingsOf
+returns c =
+    λ i.
+    record {
+      overlay = c .before .before .overlay-of .ensures i;
+      map = c .before .map-of .ensures i;
+      look = c .look-of .ensures i;
+    }
+
+pub settings-of-spec : {M : Type 1} → statement M
+settings-of-spec =
+    tie.close (tie.spec overlay-of-requires map-of-requires look-of-requires returns)

@@ -1,0 +1,93 @@
+-- include/deskboard.h: "The settings of a line are 19 words", "A frame is 24 words".
+use mathlib.Core.Bool.{Bool}
+use mathlib.Core.List.{List, [], _∷_, _++_}
+use Prim.Native.Nat.{ℕ}
+use Rattle.settings.specs.declared.Overlay.{Overlay}
+use Rattle.settings.specs.declared.Map.{Map}
+use Rattle.settings.specs.declared.Look.{Look}
+use Rattle.settings.specs.declared.Settings.{Settings}
+use Rattle.frame.specs.declared.Frame.{Frame}
+use Rattle.words.specs.Words.{wordAt, byteIn, halfIn, switchIn, switchWord, aByte, aHalf, aWord, within}
+
+-- "0 mode, 1 overlay address, 2 overlay step, 3 hscroll, 4 vscroll, 5 font, 6 text counter"
+unfoldable pub overlayOf : List ℕ → Overlay
+overlayOf words =
+    record {
+      mode = byteIn words 0;
+      address = wordAt words 1;
+      step = halfIn words 2;
+      hscroll = byteIn words 3;
+      vscroll = byteIn words 4;
+      font = byteIn words 5;
+      counter = byteIn words 6;
+    }
+
+-- "7 map on, 8 map address, 9 map step, 10 map hscroll, 11 map vscroll, 12 field width, 13 field height, 14 field counter"
+unfoldable pub mapOf : List ℕ → Map
+mapOf words =
+    record {
+      on = switchIn words 7;
+      address = wordAt words 8;
+      step = halfIn words 9;
+      hscroll = byteIn words 10;
+      vscroll = byteIn words 11;
+      width = byteIn words 12;
+      height = byteIn words 13;
+      counter = byteIn words 14;
+    }
+
+-- "15 width, 16 overlay palette, 17 playfield palette, 18 priority"
+unfoldable pub lookOf : List ℕ → Look
+lookOf words =
+    record { width = byteIn words 15; palette = byteIn words 16; playfield = byteIn words 17; priority = byteIn words 18 }
+
+unfoldable pub settingsOf : List ℕ → Settings
+settingsOf words = record { overlay = overlayOf words; map = mapOf words; look = lookOf words }
+
+-- "0..18 its settings, 19 list position, 20 repeat, 21 line, 22 ended, 23 on"
+unfoldable pub frameOf : List ℕ → Frame
+frameOf words =
+    record {
+      settings = settingsOf words;
+      position = wordAt words 19;
+      repeat = byteIn words 20;
+      line = halfIn words 21;
+      ended = switchIn words 22;
+      on = switchIn words 23;
+    }
+
+-- the other way round, in the same order
+abbrev pub overlayWords : Overlay → List ℕ
+overlayWords o = o .mode ∷ o .address ∷ o .step ∷ o .hscroll ∷ o .vscroll ∷ o .font ∷ o .counter ∷ []
+
+abbrev pub mapWords : Map → List ℕ
+mapWords p =
+    switchWord (p .on) ∷ p .address ∷ p .step ∷ p .hscroll ∷ p .vscroll ∷ p .width ∷ p .height ∷ p .counter ∷ []
+
+abbrev pub lookWords : Look → List ℕ
+lookWords l = l .width ∷ l .palette ∷ l .playfield ∷ l .priority ∷ []
+
+unfoldable pub settingsWords : Settings → List ℕ
+settingsWords s = overlayWords (s .overlay) ++ mapWords (s .map) ++ lookWords (s .look)
+
+abbrev pub placeWords : Frame → List ℕ
+placeWords f = f .position ∷ f .repeat ∷ f .line ∷ switchWord (f .ended) ∷ switchWord (f .on) ∷ []
+
+unfoldable pub frameWords : Frame → List ℕ
+frameWords f = settingsWords (f .settings) ++ placeWords f
+
+-- the largest word of each field
+unfoldable pub settingsMost : List ℕ
+settingsMost =
+    (aByte ∷ aWord ∷ aHalf ∷ aByte ∷ aByte ∷ aByte ∷ aByte ∷ [])
+    ++ (1 ∷ aWord ∷ aHalf ∷ aByte ∷ aByte ∷ aByte ∷ aByte ∷ aByte ∷ [])
+    ++ (aByte ∷ aByte ∷ aByte ∷ aByte ∷ [])
+
+abbrev pub settingsFits : List ℕ → Bool
+settingsFits words = within settingsMost words 0
+
+unfoldable pub frameMost : List ℕ
+frameMost = settingsMost ++ (aWord ∷ aByte ∷ aHalf ∷ 1 ∷ 1 ∷ [])
+
+abbrev pub frameFits : List ℕ → Bool
+frameFits words = within frameMost words 0

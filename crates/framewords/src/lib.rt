@@ -1,0 +1,161 @@
+// A line's settings and a frame as words, and back.
+ghost use mathlib.Core.Path.{_≡_};
+ghost use Rattle.words.specs.Words.{laid};
+ghost use Rattle.framewords.specs.Frame.{overlayOf, mapOf, lookOf, settingsOf, settingsWords, frameOf, frameWords, frameFits};
+use frame::Frame;
+use settings::Look;
+use settings::Map;
+use settings::Overlay;
+use settings::Settings;
+use words::all_within;
+use words::byte;
+use words::half;
+use words::lay;
+use words::switch;
+use words::word;
+
+fn overlay_of(words: &[u32]) -> Overlay
+    ensures { λ r. ⌜ r ≡ overlayOf (now (words .entry)) ⌝ }
+{
+    Overlay {
+        mode: byte(words, 0),
+        address: word(words, 1),
+        step: half(words, 2),
+        hscroll: byte(words, 3),
+        vscroll: byte(words, 4),
+        font: byte(words, 5),
+        counter: byte(words, 6),
+    }
+}
+
+fn map_of(words: &[u32]) -> Map
+    ensures { λ r. ⌜ r ≡ mapOf (now (words .entry)) ⌝ }
+{
+    Map {
+        on: switch(words, 7),
+        address: word(words, 8),
+        step: half(words, 9),
+        hscroll: byte(words, 10),
+        vscroll: byte(words, 11),
+        width: byte(words, 12),
+        height: byte(words, 13),
+        counter: byte(words, 14),
+    }
+}
+
+fn look_of(words: &[u32]) -> Look
+    ensures { λ r. ⌜ r ≡ lookOf (now (words .entry)) ⌝ }
+{
+    Look {
+        width: byte(words, 15),
+        palette: byte(words, 16),
+        playfield: byte(words, 17),
+        priority: byte(words, 18),
+    }
+}
+
+fn settings_of(words: &[u32]) -> Settings
+    ensures { λ r. ⌜ r ≡ settingsOf (now (words .entry)) ⌝ }
+{
+    let overlay = overlay_of(words);
+    let map = map_of(words);
+    let look = look_of(words);
+    Settings { overlay, map, look }
+}
+
+// The words of a line's settings, laid over what is lent.
+pub fn put_settings(words: &mut [u32], settings: Settings)
+    ensures { λ _. ⌜ now (words .exit) ≡ laid (settingsWords settings) (now (words .entry)) ⌝ }
+{
+    let overlay = settings.overlay;
+    let map = settings.map;
+    let look = settings.look;
+    let new = [
+        overlay.mode as u32,
+        overlay.address,
+        overlay.step as u32,
+        overlay.hscroll as u32,
+        overlay.vscroll as u32,
+        overlay.font as u32,
+        overlay.counter as u32,
+        map.on as u32,
+        map.address,
+        map.step as u32,
+        map.hscroll as u32,
+        map.vscroll as u32,
+        map.width as u32,
+        map.height as u32,
+        map.counter as u32,
+        look.width as u32,
+        look.palette as u32,
+        look.playfield as u32,
+        look.priority as u32,
+    ];
+    lay(words, &new);
+}
+
+// The frame that the words say. Of words that fit, every word counts.
+pub fn frame_of(words: &[u32]) -> Frame
+    ensures { λ r. ⌜ r ≡ frameOf (now (words .entry)) ⌝ }
+{
+    let settings = settings_of(words);
+    Frame {
+        settings,
+        position: word(words, 19),
+        repeat: byte(words, 20),
+        line: half(words, 21),
+        ended: switch(words, 22),
+        on: switch(words, 23),
+    }
+}
+
+// Whether each word of a frame is within its field's type.
+pub fn frame_fits(words: &[u32]) -> bool
+    ensures { λ r. ⌜ r ≡ frameFits (now (words .entry)) ⌝ }
+{
+    let most = [
+        255,
+        4294967295,
+        65535,
+        255,
+        255,
+        255,
+        255,
+        1,
+        4294967295,
+        65535,
+        255,
+        255,
+        255,
+        255,
+        255,
+        255,
+        255,
+        255,
+        255,
+        4294967295,
+        255,
+        65535,
+        1,
+        1,
+    ];
+    all_within(words, 0, &most)
+}
+
+// The words of a frame, laid over what is lent: those of its settings, and five.
+pub fn put_frame(words: &mut [u32], frame: Frame)
+    ensures { λ _. ⌜ now (words .exit) ≡ laid (frameWords frame) (now (words .entry)) ⌝ }
+{
+    let five = [
+        frame.position,
+        frame.repeat as u32,
+        frame.line as u32,
+        frame.ended as u32,
+        frame.on as u32,
+    ];
+    if words.len() < 24 {
+        return;
+    }
+    put_settings(words, frame.settings);
+    lay(&mut words[19..], &five);
+}
