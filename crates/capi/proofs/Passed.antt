@@ -12,7 +12,8 @@ use Rattle.refusal.specs.Sheet.{Told, done, refused, unless, kept}
 use Rattle.vram.specs.Memory.{goodLength}
 use Rattle.engine.specs.Run.{Counts}
 use Rattle.board.specs.declared.Board.{Board}
-use Rattle.board.specs.Board.{newBoard, writeAnswer, writeBoard, readAnswer, resetAnswer, resetBoard, runAnswer, runBoard, runMemory, tickAnswer, tickBoard, tickMem}
+use Rattle.board.specs.Board.{newBoard, writeAnswer, writeBoard, readAnswer, resetAnswer, resetBoard, runAnswer, runBoard, runMemory}
+use Rattle.board.proofs.Answer.{tick-answer, tick-board, tick-memory}
 use Rattle.settings.specs.declared.Settings.{Settings}
 use Rattle.frame.specs.declared.Frame.{Frame}
 use Rattle.frame.specs.Frame.{lineAnswer, lineFrame, startAnswer}
@@ -21,7 +22,7 @@ use Rattle.plan.specs.Plan.{parse}
 use Rattle.words.specs.Words.{laid}
 use Rattle.boardwords.specs.Board.{boardOf, boardWords, boardFits}
 use Rattle.framewords.specs.Frame.{settingsWords, frameOf, frameWords, frameFits}
-use Rattle.capi.specs.Calls.{numberTold, reported, countWords, newCall, newWords, writeCall, writeWords, readCall, resetCall, resetWords, tickCall, tickWords, tickBytes, tickReport, runCall, runWords, runBytes, runReport, startCall, lineCall, lineWords, lineSettings, compileCall, compileBytes, valueTold, compileReport}
+use Rattle.capi.specs.Calls.{numberTold, reported, long, countWords, newCall, newWords, writeCall, writeWords, readCall, resetCall, resetWords, tickCall, tickWords, tickBytes, tickReport, runCall, runWords, runBytes, runReport, startCall, lineCall, lineWords, lineSettings, compileCall, compileBytes, valueTold, compileReport}
 use Rattle.capi.proofs.Told.{past, as-number, as-change, as-report, done-number, done-change, done-report, kept-twice}
 
 pub new-done :
@@ -67,11 +68,6 @@ module _ (board : List ℕ) (b : Board) (long : 35 ≤ length board) (fits : boa
     reset-done t w = settled told a k now n s _ resetBoard (reset-passed told t) w
 
   module _ (mem report : List ℕ) (h : 2 ≤ length report) (good : goodLength (length mem) ≡ true) (told : Told Counts) where
-    tick-passed : told ≡ tickAnswer b mem → tickCall board mem report ≡ told
-    unfolding tickCall
-    tick-passed t =
-        simp (le-leb 35 (length board) long, le-leb 2 (length report) h, good, fits) (ap (λ (x : Board). tickAnswer x mem) (sym is) ∙ sym t)
-
     run-passed : (budget : ℕ) → told ≡ runAnswer b mem budget → runCall board mem budget report ≡ told
     unfolding runCall
     run-passed budget t =
@@ -80,31 +76,36 @@ module _ (board : List ℕ) (b : Board) (long : 35 ≤ length board) (fits : boa
     module _
         (a : Board) (k : ℕ) (now bytes counts : List ℕ)
         (n : k ≡ numberTold told) (s : now ≡ kept told board (laid (boardWords a) board)) (r : counts ≡ reported countWords told report) where
-      -- what a tick and a run have in common: memory m is kept where the answer is a refusal
-      ran :
-          (call : Told Counts) (f : Board → Board) (m : Board → List ℕ) → call ≡ told → a ≡ f b → bytes ≡ m b → m b ≡ kept told mem (m b)
-          → (k ≡ numberTold call)
-          × ((now ≡ kept call board (laid (boardWords (f (boardOf board))) board))
-          × ((bytes ≡ kept call mem (m (boardOf board))) × (counts ≡ reported countWords call report)))
-      ran call f m e w p q =
-          let both = settled told a k now n s call f e w in
-          (both .0, (both .1, (as-change call told e mem _ _ bytes (ap m is) (p ∙ q), as-report call told e countWords report counts r)))
-
-      pub tick-done :
-          told ≡ tickAnswer b mem → a ≡ tickBoard b mem → bytes ≡ tickMem b mem
-          → (k ≡ numberTold (tickCall board mem report)) × ((now ≡ tickWords board mem report) × ((bytes ≡ tickBytes board mem report) × (counts ≡ tickReport board mem report)))
-      unfolding tickMem
-      tick-done t w p =
-          ran _ (λ x. tickBoard x mem) (λ x. tickMem x mem) (tick-passed t) w p
-          (kept-twice (tickAnswer b mem) mem _ ∙ ap (λ (x : Told Counts). kept x mem (tickMem b mem)) (sym t))
-
       pub run-done :
           (budget : ℕ) → told ≡ runAnswer b mem budget → a ≡ runBoard b mem budget → bytes ≡ runMemory b mem budget
           → (k ≡ numberTold (runCall board mem budget report)) × ((now ≡ runWords board mem budget report) × ((bytes ≡ runBytes board mem budget report) × (counts ≡ runReport board mem budget report)))
       unfolding runMemory
       run-done budget t w p =
-          ran _ (λ x. runBoard x mem budget) (λ x. runMemory x mem budget) (run-passed budget t) w p
-          (kept-twice (runAnswer b mem budget) mem _ ∙ ap (λ (x : Told Counts). kept x mem (runMemory b mem budget)) (sym t))
+          let call = runCall board mem budget report in
+          let e = run-passed budget t in
+          let both = settled told a k now n s call (λ x. runBoard x mem budget) e w in
+          let kept-so = kept-twice (runAnswer b mem budget) mem _ ∙ ap (λ (x : Told Counts). kept x mem (runMemory b mem budget)) (sym t) in
+          (both .0, (both .1, (as-change call told e mem _ _ bytes (ap (λ (x : Board). runMemory x mem budget) is) (p ∙ kept-so), as-report call told e countWords report counts r)))
+
+-- one tick is the run with a budget of 1
+module _ (board mem report : List ℕ) where
+  tick-call : runCall board mem 1 report ≡ tickCall board mem report
+  unfolding runCall tickCall
+  tick-call =
+      ap (λ (t : Told Counts). long 35 board (long 2 report (unless (goodLength (length mem)) 1 (unless (boardFits board) 15 t)))) (tick-answer (boardOf board) mem)
+
+  pub tick-done :
+      (k : ℕ) (now bytes counts : List ℕ)
+      → (k ≡ numberTold (runCall board mem 1 report)) × ((now ≡ runWords board mem 1 report) × ((bytes ≡ runBytes board mem 1 report) × (counts ≡ runReport board mem 1 report)))
+      → (k ≡ numberTold (tickCall board mem report)) × ((now ≡ tickWords board mem report) × ((bytes ≡ tickBytes board mem report) × (counts ≡ tickReport board mem report)))
+  tick-done k now bytes counts e =
+      let b = boardOf board in (
+        e .0 ∙ ap numberTold tick-call,
+        (
+          e .1 .0 ∙ (λ i. kept (tick-call i) board (laid (boardWords (tick-board b mem i)) board)),
+          (e .1 .1 .0 ∙ (λ i. kept (tick-call i) mem (tick-memory b mem i)), e .1 .1 .1 ∙ (λ i. reported countWords (tick-call i) report)),
+        ),
+      )
 
 -- the same of a frame
 module _

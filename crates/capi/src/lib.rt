@@ -149,30 +149,6 @@ pub extern "C" fn deskboard_reset(board: &mut [u32]) -> u32
 }
 
 #[no_mangle]
-pub extern "C" fn deskboard_tick(board: &mut [u32], mem: &mut [u8], report: &mut [u32]) -> u32
-    ensures number { λ r. ⌜ r ≡ numberTold (tickCall (now (board .entry)) (now (mem .entry)) (now (report .entry))) ⌝ }
-    ensures board { λ _. ⌜ now (board .exit) ≡ tickWords (now (board .entry)) (now (mem .entry)) (now (report .entry)) ⌝ }
-    ensures memory { λ _. ⌜ now (mem .exit) ≡ tickBytes (now (board .entry)) (now (mem .entry)) (now (report .entry)) ⌝ }
-    ensures report { λ _. ⌜ now (report .exit) ≡ tickReport (now (board .entry)) (now (mem .entry)) (now (report .entry)) ⌝ }
-{
-    if board.len() < 35 {
-        return 255;
-    }
-    if report.len() < 2 {
-        return 255;
-    }
-    if !vram::good_length(mem.len()) {
-        return 1;
-    }
-    if !boardwords::board_fits(board) {
-        return 15;
-    }
-    let b = boardwords::board_of(board);
-    let ran = b.tick(mem);
-    settle_run(board, report, ran)
-}
-
-#[no_mangle]
 pub extern "C" fn deskboard_run(
     board: &mut [u32],
     mem: &mut [u8],
@@ -199,6 +175,17 @@ pub extern "C" fn deskboard_run(
     let b = boardwords::board_of(board);
     let ran = b.run(mem, budget);
     settle_run(board, report, ran)
+}
+
+// One tick is the run with a budget of 1.
+#[no_mangle]
+pub extern "C" fn deskboard_tick(board: &mut [u32], mem: &mut [u8], report: &mut [u32]) -> u32
+    ensures number { λ r. ⌜ r ≡ numberTold (tickCall (now (board .entry)) (now (mem .entry)) (now (report .entry))) ⌝ }
+    ensures board { λ _. ⌜ now (board .exit) ≡ tickWords (now (board .entry)) (now (mem .entry)) (now (report .entry)) ⌝ }
+    ensures memory { λ _. ⌜ now (mem .exit) ≡ tickBytes (now (board .entry)) (now (mem .entry)) (now (report .entry)) ⌝ }
+    ensures report { λ _. ⌜ now (report .exit) ≡ tickReport (now (board .entry)) (now (mem .entry)) (now (report .entry)) ⌝ }
+{
+    deskboard_run(board, mem, 1, report)
 }
 
 #[no_mangle]

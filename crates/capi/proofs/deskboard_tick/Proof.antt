@@ -1,45 +1,14 @@
--- `capi::deskboard_tick` meets its contract. Assumes nothing.
-use mathlib.Core.Path.{refl, sym, _∙_}
-use borrow.Author.Tests.{lt-leb, le-leb, not-true, not-false}
-use Rattle.capi.specs.Calls.{tickCall}
+-- `capi::deskboard_tick` meets its contract: a run with a budget of 1 is one tick. Assumes nothing.
 use Rattle.capi.proofs.Passed.{tick-done}
 use borrow.Author.Needs.{needs}
 use Rattle.capi.proofs.deskboard_tick.Statement.{statement}
 use Rattle.capi.proofs.deskboard_tick.Tie as tie
 
-returns : tie.Need-returns
-unfolding tickCall
-returns c = simp (lt-leb _ _ (c .if1 .taken)) (refl, (refl, (refl, refl)))
-
-returns-2 : tie.Need-returns-2
-unfolding tickCall
-returns-2 c = simp (le-leb _ _ (c .before .if1 .left), lt-leb _ _ (c .if2 .taken)) (refl, (refl, (refl, refl)))
-
-good-length-requires : tie.Need-good-length-requires
-good-length-requires c κs = search needs
-
-returns-3 : tie.Need-returns-3
-unfolding tickCall
-returns-3 c = simp (le-leb _ _ (c .before .before .before .if1 .left), le-leb _ _ (c .before .before .if2 .left), sym (c .before .good-length .ensures) ∙ not-true _ (c .if3 .taken)) (refl, (refl, (refl, refl)))
-
-board-fits-requires : tie.Need-board-fits-requires
-board-fits-requires c κs = search needs
+deskboard-run-requires : tie.Need-deskboard-run-requires
+deskboard-run-requires c κs = search needs
 
 same-length : tie.Need-same-length
 same-length c = search needs
-
-returns-4 : tie.Need-returns-4
-unfolding tickCall
-returns-4 c = simp (le-leb _ _ (c .before .before .before .before .before .before .if1 .left), le-leb _ _ (c .before .before .before .before .before .if2 .left), sym (c .before .before .before .before .good-length .ensures) ∙ not-false _ (c .before .before .before .if3 .left), sym (c .before .board-fits .ensures) ∙ not-true _ (c .if4 .taken)) (refl, (refl, (refl, refl)))
-
-board-of-requires : tie.Need-board-of-requires
-board-of-requires c κs = search needs
-
-tick-requires : tie.Need-tick-requires
-tick-requires c κs = search needs
-
-settle-run-requires : tie.Need-settle-run-requires
-settle-run-requires c κs = search needs
 
 same-length-2 : tie.Need-same-length-2
 same-length-2 c = search needs
@@ -47,32 +16,9 @@ same-length-2 c = search needs
 same-length-3 : tie.Need-same-length-3
 same-length-3 c = search needs
 
-same-length-4 : tie.Need-same-length-4
-same-length-4 c = search needs
-
-returns-5 : tie.Need-returns-5
-returns-5 c =
-    let fits = sym (c .before .before .before .before .before .before .before .before .before .before .before .before .before .before .board-fits .ensures) ∙ not-false _ (c .before .before .before .before .before .before .before .before .before .before .before .before .before .if4 .left) in
-    let good = sym (c .before .before .before .before .before .before .before .before .before .before .before .before .before .before .before .before .before .good-length .ensures) ∙ not-false _ (c .before .before .before .before .before .before .before .before .before .before .before .before .before .before .before .before .if3 .left) in
-    let s = c .before .before .before .before .settle-run .ensures in
-    let r = c .before .before .before .before .before .before .before .before .before .tick .ensures in
-    tick-done _ _ (c .before .before .before .before .before .before .before .before .before .before .before .before .before .before .before .before .before .before .before .if1 .left) fits (c .before .before .before .before .before .before .before .before .before .before .before .board-of .ensures) _ _ (c .before .before .before .before .before .before .before .before .before .before .before .before .before .before .before .before .before .before .if2 .left) good _ _ _ _ _ _ (s .0) (s .1 .0) (s .1 .1) (r .0) (r .1 .0) (r .1 .1)
+returns : tie.Need-returns
+returns c = tick-done _ _ _ _ _ _ _ (c .before .before .before .before .before .before .deskboard-run .ensures)
 
 pub deskboard-tick-spec : {M : Type 1} → statement M
 deskboard-tick-spec =
-    tie.close
-    (tie.spec
-    returns
-    returns-2
-    good-length-requires
-    returns-3
-    board-fits-requires
-    same-length
-    returns-4
-    board-of-requires
-    tick-requires
-    settle-run-requires
-    same-length-2
-    same-length-3
-    same-length-4
-    returns-5)
+    tie.close (tie.spec deskboard-run-requires same-length same-length-2 same-length-3 returns)
