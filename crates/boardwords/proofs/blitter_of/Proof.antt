@@ -1,32 +1,31 @@
 -- `boardwords::blitter_of` meets its contract: each field from its word. Assumes nothing.
 use Rattle.boardwords.specs.Board.{blitterOf}
-use borrow.Author.Needs.{needs}
 use Rattle.boardwords.proofs.blitter_of.Statement.{statement}
 use Rattle.boardwords.proofs.blitter_of.Tie as tie
 
 block-of-requires : tie.Need-block-of-requires
-block-of-requires c κs = search needs
+block-of-requires c κs = tt
 
 switch-requires : tie.Need-switch-requires
-switch-requires c κs = search needs
+switch-requires c κs = tt
 
 switch-requires-2 : tie.Need-switch-requires-2
-switch-requires-2 c κs = search needs
+switch-requires-2 c κs = tt
 
 word-requires : tie.Need-word-requires
-word-requires c κs = search needs
+word-requires c κs = tt
 
 byte-requires : tie.Need-byte-requires
-byte-requires c κs = search needs
+byte-requires c κs = tt
 
 byte-requires-2 : tie.Need-byte-requires-2
-byte-requires-2 c κs = search needs
+byte-requires-2 c κs = tt
 
 half-requires : tie.Need-half-requires
-half-requires c κs = search needs
+half-requires c κs = tt
 
 half-requires-2 : tie.Need-half-requires-2
-half-requires-2 c κs = search needs
+half-requires-2 c κs = tt
 
 returns : tie.Need-returns
 unfolding blitterOf

@@ -8,19 +8,19 @@ slice-aggregate-all-within : tie.Need-slice-aggregate-all-within
 slice-aggregate-all-within c = search needs
 
 all-within-requires : tie.Need-all-within-requires
-all-within-requires c κs = search needs
+all-within-requires c κs = tt
 
 slice-aggregate-all-within-2 : tie.Need-slice-aggregate-all-within-2
 slice-aggregate-all-within-2 c = search needs
 
 all-within-requires-2 : tie.Need-all-within-requires-2
-all-within-requires-2 c κs = search needs
+all-within-requires-2 c κs = tt
 
 slice-aggregate-all-within-3 : tie.Need-slice-aggregate-all-within-3
 slice-aggregate-all-within-3 c = search needs
 
 all-within-requires-3 : tie.Need-all-within-requires-3
-all-within-requires-3 c κs = search needs
+all-within-requires-3 c κs = tt
 
 returns : tie.Need-returns
 returns c = board-within _ _ _ _ (c .before .before .before .before .all-within .ensures) (c .before .before .all-within2 .ensures) (c .all-within3 .ensures)

@@ -1,14 +1,13 @@
 -- `boardwords::board_of` meets its contract: each field from its word. Assumes nothing.
 use Rattle.boardwords.specs.Board.{boardOf}
-use borrow.Author.Needs.{needs}
 use Rattle.boardwords.proofs.board_of.Statement.{statement}
 use Rattle.boardwords.proofs.board_of.Tie as tie
 
 ports-of-requires : tie.Need-ports-of-requires
-ports-of-requires c κs = search needs
+ports-of-requires c κs = tt
 
 blitter-of-requires : tie.Need-blitter-of-requires
-blitter-of-requires c κs = search needs
+blitter-of-requires c κs = tt
 
 returns : tie.Need-returns
 unfolding boardOf

@@ -4,24 +4,25 @@ use borrow.Author.Tests.{lt-leb}
 use Rattle.laws.proofs.Choice.{bool-byte}
 use Rattle.words.proofs.Laid.{laid-three}
 use Rattle.boardwords.specs.Board.{registerWords, blockWords, positionWords, boardWords}
+use mir.Facts.{fits-widen}
 use borrow.Author.Needs.{needs}
 use Rattle.boardwords.proofs.put_board.Statement.{statement}
 use Rattle.boardwords.proofs.put_board.Tie as tie
 
 cast-t7 : tie.Need-cast-t7
-cast-t7 c = search needs
+cast-t7 c = fits-widen tt (c .struct-known .given .0)
 
 cast-t8 : tie.Need-cast-t8
-cast-t8 c = search needs
+cast-t8 c = fits-widen tt (c .struct-known2 .given .1 .1 .1 .0)
 
 cast-t9 : tie.Need-cast-t9
-cast-t9 c = search needs
+cast-t9 c = fits-widen tt (c .struct-known3 .given .1 .1 .1 .1 .0)
 
 cast-t10 : tie.Need-cast-t10
-cast-t10 c = search needs
+cast-t10 c = fits-widen tt (c .struct-known4 .given .1 .1 .1 .1 .1 .0)
 
 cast-t11 : tie.Need-cast-t11
-cast-t11 c = search needs
+cast-t11 c = fits-widen tt (c .struct-known5 .given .1 .1 .1 .1 .1 .1 .0)
 
 cast-t12 : tie.Need-cast-t12
 cast-t12 c = search needs
@@ -30,16 +31,16 @@ cast-t13 : tie.Need-cast-t13
 cast-t13 c = search needs
 
 cast-t14 : tie.Need-cast-t14
-cast-t14 c = search needs
+cast-t14 c = fits-widen tt (c .struct-known8 .given .1 .1 .1 .0)
 
 cast-t15 : tie.Need-cast-t15
-cast-t15 c = search needs
+cast-t15 c = fits-widen tt (c .struct-known9 .given .1 .1 .1 .1 .0)
 
 cast-t7-2 : tie.Need-cast-t7-2
-cast-t7-2 c = search needs
+cast-t7-2 c = fits-widen tt (c .struct-known10 .given .1 .1 .1 .1 .1 .1 .0)
 
 cast-t15-2 : tie.Need-cast-t15-2
-cast-t15-2 c = search needs
+cast-t15-2 c = fits-widen tt (c .struct-known11 .given .1 .1 .1 .1 .1 .1 .1 .0)
 
 returns : tie.Need-returns
 unfolding boardWords
@@ -49,7 +50,7 @@ slice-aggregate-lay : tie.Need-slice-aggregate-lay
 slice-aggregate-lay c = search needs
 
 lay-requires : tie.Need-lay-requires
-lay-requires c κs = search needs
+lay-requires c κs = tt
 
 sub-put-block : tie.Need-sub-put-block
 sub-put-block c = search needs
@@ -61,7 +62,7 @@ part-put-block-end : tie.Need-part-put-block-end
 part-put-block-end c = search needs
 
 put-block-requires : tie.Need-put-block-requires
-put-block-requires c κs = search needs
+put-block-requires c κs = tt
 
 sub-lay : tie.Need-sub-lay
 sub-lay c = search needs
@@ -76,7 +77,7 @@ slice-aggregate-lay-2 : tie.Need-slice-aggregate-lay-2
 slice-aggregate-lay-2 c = search needs
 
 lay-requires-2 : tie.Need-lay-requires-2
-lay-requires-2 c κs = search needs
+lay-requires-2 c κs = tt
 
 same-length : tie.Need-same-length
 same-length c = search needs

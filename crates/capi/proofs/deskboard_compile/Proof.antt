@@ -15,7 +15,7 @@ unfolding compileCall
 returns c = simp (lt-leb _ _ (c .if1 .taken)) (refl, (refl, refl))
 
 compile-requires : tie.Need-compile-requires
-compile-requires c κs = search needs
+compile-requires c κs = tt
 
 enum-known-told : tie.Need-enum-known-told
 enum-known-told c = search needs
@@ -27,7 +27,7 @@ slice-aggregate-lay : tie.Need-slice-aggregate-lay
 slice-aggregate-lay c = search needs
 
 lay-requires : tie.Need-lay-requires
-lay-requires c κs = search needs
+lay-requires c κs = tt
 
 enum-known-told-2 : tie.Need-enum-known-told-2
 enum-known-told-2 c = search needs
@@ -36,19 +36,19 @@ slice-aggregate-lay-2 : tie.Need-slice-aggregate-lay-2
 slice-aggregate-lay-2 c = search needs
 
 lay-requires-2 : tie.Need-lay-requires-2
-lay-requires-2 c κs = search needs
+lay-requires-2 c κs = tt
 
 number-requires : tie.Need-number-requires
-number-requires c κs = search needs
+number-requires c κs = tt
 
 cast-result : tie.Need-cast-result
 cast-result c = search needs
 
 same-length : tie.Need-same-length
-same-length c = search needs
+same-length c = c .before .before .before .before .before .before .before .before .before .out .given
 
 same-length-2 : tie.Need-same-length-2
-same-length-2 c = search needs
+same-length-2 c = c .before .report .given
 
 returns-2 : tie.Need-returns-2
 returns-2 c =
@@ -57,10 +57,10 @@ returns-2 c =
     (done-number _ _ (p ∙ e), (compile-out _ _ _ _ p (c .before .before .before .before .before .before .before .before .before .before .compile .ensures .1), compile-report _ _ (c .before .before .before .before .before .before .before .before .before .before .before .before .before .before .before .before .args .report .now) _ _ e (c .before .before .lay .ensures)))
 
 same-length-3 : tie.Need-same-length-3
-same-length-3 c = search needs
+same-length-3 c = c .before .before .before .before .before .before .before .before .before .before .out .given
 
 same-length-4 : tie.Need-same-length-4
-same-length-4 c = search needs
+same-length-4 c = c .before .before .report2 .given
 
 returns-3 : tie.Need-returns-3
 returns-3 c =

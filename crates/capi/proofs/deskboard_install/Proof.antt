@@ -7,7 +7,7 @@ use Rattle.capi.proofs.deskboard_install.Statement.{statement}
 use Rattle.capi.proofs.deskboard_install.Tie as tie
 
 install-requires : tie.Need-install-requires
-install-requires c κs = search needs
+install-requires c κs = tt
 
 enum-told : tie.Need-enum-told
 enum-told c = search needs
@@ -16,19 +16,19 @@ enum-known-told : tie.Need-enum-known-told
 enum-known-told c = search needs
 
 number-requires : tie.Need-number-requires
-number-requires c κs = search needs
+number-requires c κs = tt
 
 cast-result : tie.Need-cast-result
 cast-result c = search needs
 
 same-length : tie.Need-same-length
-same-length c = search needs
+same-length c = c .before .before .before .mem .given
 
 returns : tie.Need-returns
 returns c = (ap numberTold (ap outcomeTold (sym (c .enum-told .given .1)) ∙ c .before .before .before .before .install .ensures .0), c .before .before .before .before .install .ensures .1)
 
 same-length-2 : tie.Need-same-length-2
-same-length-2 c = search needs
+same-length-2 c = c .before .before .before .before .before .mem .given
 
 returns-2 : tie.Need-returns-2
 returns-2 c = (c .number .ensures ∙ ap numberTold (ap outcomeTold (sym (c .before .before .told .given .1)) ∙ c .before .before .before .before .before .before .install .ensures .0), c .before .before .before .before .before .before .install .ensures .1)

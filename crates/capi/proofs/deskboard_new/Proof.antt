@@ -3,7 +3,6 @@ use mathlib.Core.Path.{refl}
 use borrow.Author.Tests.{lt-leb}
 use Rattle.capi.specs.Calls.{newCall}
 use Rattle.capi.proofs.Passed.{new-done}
-use borrow.Author.Needs.{needs}
 use Rattle.capi.proofs.deskboard_new.Statement.{statement}
 use Rattle.capi.proofs.deskboard_new.Tie as tie
 
@@ -12,13 +11,13 @@ unfolding newCall
 returns c = simp (lt-leb _ _ (c .if1 .taken)) (refl, refl)
 
 new-requires : tie.Need-new-requires
-new-requires c κs = search needs
+new-requires c κs = tt
 
 put-board-requires : tie.Need-put-board-requires
-put-board-requires c κs = search needs
+put-board-requires c κs = tt
 
 same-length : tie.Need-same-length
-same-length c = search needs
+same-length c = c .before .board .given
 
 returns-2 : tie.Need-returns-2
 returns-2 c = new-done _ _ _ (c .before .before .before .before .before .if1 .left) (c .before .before .before .before .new .ensures) (c .before .before .put-board .ensures)

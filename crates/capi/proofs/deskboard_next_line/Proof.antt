@@ -18,51 +18,51 @@ unfolding lineCall
 returns-2 c = simp (le-leb _ _ (c .before .if1 .left), lt-leb _ _ (c .if2 .taken)) (refl, (refl, refl))
 
 good-length-requires : tie.Need-good-length-requires
-good-length-requires c κs = search needs
+good-length-requires c κs = tt
 
 returns-3 : tie.Need-returns-3
 unfolding lineCall
 returns-3 c = simp (le-leb _ _ (c .before .before .before .if1 .left), le-leb _ _ (c .before .before .if2 .left), sym (c .before .good-length .ensures) ∙ not-true _ (c .if3 .taken)) (refl, (refl, refl))
 
 frame-fits-requires : tie.Need-frame-fits-requires
-frame-fits-requires c κs = search needs
+frame-fits-requires c κs = tt
 
 same-length : tie.Need-same-length
-same-length c = search needs
+same-length c = refl
 
 returns-4 : tie.Need-returns-4
 unfolding lineCall
 returns-4 c = simp (le-leb _ _ (c .before .before .before .before .before .before .if1 .left), le-leb _ _ (c .before .before .before .before .before .if2 .left), sym (c .before .before .before .before .good-length .ensures) ∙ not-false _ (c .before .before .before .if3 .left), sym (c .before .frame-fits .ensures) ∙ not-true _ (c .if4 .taken)) (refl, (refl, refl))
 
 frame-of-requires : tie.Need-frame-of-requires
-frame-of-requires c κs = search needs
+frame-of-requires c κs = tt
 
 next-line-requires : tie.Need-next-line-requires
-next-line-requires c κs = search needs
+next-line-requires c κs = tt
 
 enum-known-told : tie.Need-enum-known-told
 enum-known-told c = search needs
 
 put-frame-requires : tie.Need-put-frame-requires
-put-frame-requires c κs = search needs
+put-frame-requires c κs = tt
 
 put-settings-requires : tie.Need-put-settings-requires
-put-settings-requires c κs = search needs
+put-settings-requires c κs = tt
 
 enum-known-told-2 : tie.Need-enum-known-told-2
 enum-known-told-2 c = search needs
 
 number-requires : tie.Need-number-requires
-number-requires c κs = search needs
+number-requires c κs = tt
 
 cast-result : tie.Need-cast-result
 cast-result c = search needs
 
 same-length-2 : tie.Need-same-length-2
-same-length-2 c = search needs
+same-length-2 c = c .before .before .before .before .before .frame .given
 
 same-length-3 : tie.Need-same-length-3
-same-length-3 c = search needs
+same-length-3 c = c .before .settings .given
 
 returns-5 : tie.Need-returns-5
 returns-5 c =
@@ -72,7 +72,7 @@ returns-5 c =
     line-done _ _ _ _ (c .before .before .before .before .before .before .before .before .before .before .before .before .before .before .before .before .before .before .before .before .if1 .left) (c .before .before .before .before .before .before .before .before .before .before .before .before .before .before .before .before .before .before .before .if2 .left) good fits (c .before .before .before .before .before .before .before .before .before .before .before .before .frame-of .ensures) _ _ _ _ t (c .before .before .before .before .before .before .before .before .before .before .before .next-line .ensures .1) (c .before .before .before .before .before .before .put-frame .ensures) (c .before .before .put-settings .ensures)
 
 same-length-4 : tie.Need-same-length-4
-same-length-4 c = search needs
+same-length-4 c = refl
 
 returns-6 : tie.Need-returns-6
 returns-6 c =

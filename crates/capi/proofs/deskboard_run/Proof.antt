@@ -3,7 +3,6 @@ use mathlib.Core.Path.{refl, sym, _∙_}
 use borrow.Author.Tests.{lt-leb, le-leb, not-true, not-false}
 use Rattle.capi.specs.Calls.{runCall}
 use Rattle.capi.proofs.Passed.{run-done}
-use borrow.Author.Needs.{needs}
 use Rattle.capi.proofs.deskboard_run.Statement.{statement}
 use Rattle.capi.proofs.deskboard_run.Tie as tie
 
@@ -16,39 +15,39 @@ unfolding runCall
 returns-2 c = simp (le-leb _ _ (c .before .if1 .left), lt-leb _ _ (c .if2 .taken)) (refl, (refl, (refl, refl)))
 
 good-length-requires : tie.Need-good-length-requires
-good-length-requires c κs = search needs
+good-length-requires c κs = tt
 
 returns-3 : tie.Need-returns-3
 unfolding runCall
 returns-3 c = simp (le-leb _ _ (c .before .before .before .if1 .left), le-leb _ _ (c .before .before .if2 .left), sym (c .before .good-length .ensures) ∙ not-true _ (c .if3 .taken)) (refl, (refl, (refl, refl)))
 
 board-fits-requires : tie.Need-board-fits-requires
-board-fits-requires c κs = search needs
+board-fits-requires c κs = tt
 
 same-length : tie.Need-same-length
-same-length c = search needs
+same-length c = refl
 
 returns-4 : tie.Need-returns-4
 unfolding runCall
 returns-4 c = simp (le-leb _ _ (c .before .before .before .before .before .before .if1 .left), le-leb _ _ (c .before .before .before .before .before .if2 .left), sym (c .before .before .before .before .good-length .ensures) ∙ not-false _ (c .before .before .before .if3 .left), sym (c .before .board-fits .ensures) ∙ not-true _ (c .if4 .taken)) (refl, (refl, (refl, refl)))
 
 board-of-requires : tie.Need-board-of-requires
-board-of-requires c κs = search needs
+board-of-requires c κs = tt
 
 run-requires : tie.Need-run-requires
-run-requires c κs = search needs
+run-requires c κs = tt
 
 settle-run-requires : tie.Need-settle-run-requires
-settle-run-requires c κs = search needs
+settle-run-requires c κs = tt
 
 same-length-2 : tie.Need-same-length-2
-same-length-2 c = search needs
+same-length-2 c = c .before .before .before .board .given
 
 same-length-3 : tie.Need-same-length-3
-same-length-3 c = search needs
+same-length-3 c = c .before .before .before .before .before .before .before .before .mem .given
 
 same-length-4 : tie.Need-same-length-4
-same-length-4 c = search needs
+same-length-4 c = c .before .report .given
 
 returns-5 : tie.Need-returns-5
 returns-5 c =

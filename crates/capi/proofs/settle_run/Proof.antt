@@ -8,28 +8,28 @@ enum-known-told : tie.Need-enum-known-told
 enum-known-told c = search needs
 
 put-board-requires : tie.Need-put-board-requires
-put-board-requires c κs = search needs
+put-board-requires c κs = tt
 
 slice-aggregate-lay : tie.Need-slice-aggregate-lay
 slice-aggregate-lay c = search needs
 
 lay-requires : tie.Need-lay-requires
-lay-requires c κs = search needs
+lay-requires c κs = tt
 
 enum-known-told-2 : tie.Need-enum-known-told-2
 enum-known-told-2 c = search needs
 
 number-requires : tie.Need-number-requires
-number-requires c κs = search needs
+number-requires c κs = tt
 
 cast-result : tie.Need-cast-result
 cast-result c = search needs
 
 same-length : tie.Need-same-length
-same-length c = search needs
+same-length c = c .before .before .before .before .before .before .board .given
 
 same-length-2 : tie.Need-same-length-2
-same-length-2 c = search needs
+same-length-2 c = c .before .report .given
 
 returns : tie.Need-returns
 returns c = simp (c .before .before .before .before .before .before .before .before .before .before .told .given .1) (refl, (c .before .before .before .before .before .before .before .put-board .ensures, c .before .before .lay .ensures))

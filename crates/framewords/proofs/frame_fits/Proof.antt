@@ -8,7 +8,7 @@ slice-aggregate-all-within : tie.Need-slice-aggregate-all-within
 slice-aggregate-all-within c = search needs
 
 all-within-requires : tie.Need-all-within-requires
-all-within-requires c κs = search needs
+all-within-requires c κs = tt
 
 returns : tie.Need-returns
 unfolding frameMost settingsMost

@@ -1,26 +1,25 @@
 -- `framewords::frame_of` meets its contract: each field from its word. Assumes nothing.
 use Rattle.framewords.specs.Frame.{frameOf}
-use borrow.Author.Needs.{needs}
 use Rattle.framewords.proofs.frame_of.Statement.{statement}
 use Rattle.framewords.proofs.frame_of.Tie as tie
 
 settings-of-requires : tie.Need-settings-of-requires
-settings-of-requires c κs = search needs
+settings-of-requires c κs = tt
 
 word-requires : tie.Need-word-requires
-word-requires c κs = search needs
+word-requires c κs = tt
 
 byte-requires : tie.Need-byte-requires
-byte-requires c κs = search needs
+byte-requires c κs = tt
 
 half-requires : tie.Need-half-requires
-half-requires c κs = search needs
+half-requires c κs = tt
 
 switch-requires : tie.Need-switch-requires
-switch-requires c κs = search needs
+switch-requires c κs = tt
 
 switch-requires-2 : tie.Need-switch-requires-2
-switch-requires-2 c κs = search needs
+switch-requires-2 c κs = tt
 
 returns : tie.Need-returns
 unfolding frameOf

@@ -1,32 +1,31 @@
 -- `framewords::map_of` meets its contract: each field from its word. Assumes nothing.
 use Rattle.framewords.specs.Frame.{mapOf}
-use borrow.Author.Needs.{needs}
 use Rattle.framewords.proofs.map_of.Statement.{statement}
 use Rattle.framewords.proofs.map_of.Tie as tie
 
 switch-requires : tie.Need-switch-requires
-switch-requires c κs = search needs
+switch-requires c κs = tt
 
 word-requires : tie.Need-word-requires
-word-requires c κs = search needs
+word-requires c κs = tt
 
 half-requires : tie.Need-half-requires
-half-requires c κs = search needs
+half-requires c κs = tt
 
 byte-requires : tie.Need-byte-requires
-byte-requires c κs = search needs
+byte-requires c κs = tt
 
 byte-requires-2 : tie.Need-byte-requires-2
-byte-requires-2 c κs = search needs
+byte-requires-2 c κs = tt
 
 byte-requires-3 : tie.Need-byte-requires-3
-byte-requires-3 c κs = search needs
+byte-requires-3 c κs = tt
 
 byte-requires-4 : tie.Need-byte-requires-4
-byte-requires-4 c κs = search needs
+byte-requires-4 c κs = tt
 
 byte-requires-5 : tie.Need-byte-requires-5
-byte-requires-5 c κs = search needs
+byte-requires-5 c κs = tt
 
 returns : tie.Need-returns
 unfolding mapOf

@@ -3,15 +3,16 @@ use borrow.Author.Tests.{lt-leb}
 use Rattle.laws.proofs.Choice.{bool-byte}
 use Rattle.words.proofs.Laid.{laid-on}
 use Rattle.framewords.specs.Frame.{settingsWords, placeWords, frameWords}
+use mir.Facts.{fits-widen}
 use borrow.Author.Needs.{needs}
 use Rattle.framewords.proofs.put_frame.Statement.{statement}
 use Rattle.framewords.proofs.put_frame.Tie as tie
 
 cast-t4 : tie.Need-cast-t4
-cast-t4 c = search needs
+cast-t4 c = fits-widen tt (c .struct-known .given .1 .1 .0)
 
 cast-t5 : tie.Need-cast-t5
-cast-t5 c = search needs
+cast-t5 c = fits-widen tt (c .struct-known2 .given .1 .1 .1 .0)
 
 cast-t6 : tie.Need-cast-t6
 cast-t6 c = search needs
@@ -24,7 +25,7 @@ unfolding frameWords settingsWords
 returns c = simp (lt-leb _ _ (c .if1 .taken))
 
 put-settings-requires : tie.Need-put-settings-requires
-put-settings-requires c κs = search needs
+put-settings-requires c κs = tt
 
 sub-lay : tie.Need-sub-lay
 sub-lay c = search needs
@@ -39,7 +40,7 @@ slice-aggregate-lay : tie.Need-slice-aggregate-lay
 slice-aggregate-lay c = search needs
 
 lay-requires : tie.Need-lay-requires
-lay-requires c κs = search needs
+lay-requires c κs = tt
 
 same-length : tie.Need-same-length
 same-length c = search needs

@@ -1,17 +1,16 @@
 -- `framewords::settings_of` meets its contract: each field from its word. Assumes nothing.
 use Rattle.framewords.specs.Frame.{settingsOf}
-use borrow.Author.Needs.{needs}
 use Rattle.framewords.proofs.settings_of.Statement.{statement}
 use Rattle.framewords.proofs.settings_of.Tie as tie
 
 overlay-of-requires : tie.Need-overlay-of-requires
-overlay-of-requires c κs = search needs
+overlay-of-requires c κs = tt
 
 map-of-requires : tie.Need-map-of-requires
-map-of-requires c κs = search needs
+map-of-requires c κs = tt
 
 look-of-requires : tie.Need-look-of-requires
-look-of-requires c κs = search needs
+look-of-requires c κs = tt
 
 returns : tie.Need-returns
 unfolding settingsOf
