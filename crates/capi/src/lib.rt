@@ -144,8 +144,8 @@ pub extern "C" fn deskboard_reset(board: &mut [u32]) -> u32
         return 15;
     }
     let b = boardwords::board_of(board);
-    let changed = b.reset();
-    settle(board, changed)
+    let cleared = b.reset();
+    settle(board, cleared)
 }
 
 #[no_mangle]
