@@ -1,6 +1,7 @@
 // The cases of document 01, "At the edges", that are not starred, and one case for each of its traps, where a program that
 // fell into it would print something else.
 use board::Board;
+use engine::RunReport;
 
 fn yes_no(t: bool) {
     if t {
