@@ -161,7 +161,7 @@ fn blitter_write(blitter: Blitter, bladr: u32, offset: u32, value: u8) -> Blitte
 
 impl Board {
     // The most ticks that one run may ask for.
-    pub const BUDGET: u32 = engine::BUDGET;
+    pub const BUDGET: u32 = RunReport::BUDGET;
 
     pub fn new() -> Board
         ensures { λ r. ⌜ r ≡ newBoard ⌝ }

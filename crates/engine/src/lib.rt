@@ -12,13 +12,15 @@ use block::Block;
 use refusal::Refusal;
 use stretch::Stretch;
 
-// The most ticks that one run may ask for.
-pub const BUDGET: u32 = 1000000;
-
 // What a run reports: ticks done and accesses made, or why it is refused.
 pub enum RunReport {
     Ran { ticks: u32, accesses: u32 },
     Refused(Refusal),
+}
+
+impl RunReport {
+    // The most ticks that one run may ask for.
+    pub const BUDGET: u32 = 1000000;
 }
 
 // The blitter after a run, and what is reported.
@@ -321,7 +323,7 @@ pub fn run(blitter: Blitter, mem: &mut [u8], budget: u32) -> BlitterRan
             report: RunReport::Refused(Refusal::State),
         };
     }
-    if BUDGET < budget {
+    if RunReport::BUDGET < budget {
         return BlitterRan {
             blitter,
             report: RunReport::Refused(Refusal::Budget),

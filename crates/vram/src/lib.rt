@@ -15,15 +15,18 @@ pub fn good_length(len: usize) -> bool
 }
 
 // The byte at an address, some bytes further on. The address is reduced first, so that the sum fits;
-// of a memory with no bytes, which every call refuses, it is 0.
+// of a memory with no bytes, which every call refuses, it is 0. Where the address is inside, nothing is divided.
 pub fn byte_at(mem: &[u8], address: u32, offset: u8) -> u8
     ensures { λ r. ⌜ r ≡ byteAt (now (mem .entry)) address offset ⌝ }
 {
     if mem.len() == 0 {
         return 0;
     }
-    let i = ((address % 524288 + offset as u32) % 524288) as usize % mem.len();
-    mem[i]
+    let i = ((address % 524288 + offset as u32) % 524288) as usize;
+    if i < mem.len() {
+        return mem[i];
+    }
+    mem[i % mem.len()]
 }
 
 // The 12 bits of a step in the display list: the low byte and four bits of the high one.
