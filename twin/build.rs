@@ -1,6 +1,10 @@
-//! With the feature `desk`: links the archive that `rt staticlib capi` writes.
+//! With the feature `desk`: links the archive that `rt staticlib capi` writes, or the one in the folder that
+//! `TWIN_ARCHIVE` names.
 
-use std::{env, path::Path};
+use std::{
+    env,
+    path::{Path, PathBuf},
+};
 
 fn main() {
     println!("cargo:rerun-if-changed=build.rs");
@@ -8,13 +12,18 @@ fn main() {
         return;
     }
     let here = env::var("CARGO_MANIFEST_DIR").expect("cargo names the package's folder");
-    let folder = Path::new(&here).join("../target/staticlib");
+    println!("cargo:rerun-if-env-changed=TWIN_ARCHIVE");
+    let folder = match env::var_os("TWIN_ARCHIVE") {
+        Some(named) => PathBuf::from(named),
+        None => Path::new(&here).join("../target/staticlib"),
+    };
     let archive = folder.join("libcapi.a");
     println!("cargo:rerun-if-changed={}", archive.display());
     assert!(
         archive.exists(),
-        "target/staticlib/libcapi.a is not there: start twin/run, which builds it, \
-         or test the twin alone with --no-default-features"
+        "{} is not there: start twin/run, which builds it, \
+         or test the twin alone with --no-default-features",
+        archive.display()
     );
     println!("cargo:rustc-link-search=native={}", folder.display());
     println!("cargo:rustc-link-lib=static=capi");
