@@ -91,13 +91,18 @@ fn bit_of(mask: u8, k: u8) -> bool
     (mask >> k) % 2 == 1
 }
 
-// A collision, by the mask's bit for the range of colours that d is in: 32 of a byte, 2 of a nibble. No
-// branch, since colours are hard to foresee.
+// A collision, by the mask's bit for the range of colours that d is in: 32 of a byte, 2 of a nibble.
 fn hit(colours: u8, mask: u8, s: u8, d: u8) -> bool
     requires { ⌜ (0 < colours) × (d < 8 * colours) ⌝ }
     ensures { λ r. ⌜ r ≡ hits colours mask s d ⌝ }
 {
-    (s != 0) & (d != 0) & bit_of(mask, d / colours)
+    if s == 0 {
+        return false;
+    }
+    if d == 0 {
+        return false;
+    }
+    bit_of(mask, d / colours)
 }
 
 fn code_by(colours: u8, mask: u8, s: u8, d: u8, code: u8) -> u8

@@ -1,4 +1,5 @@
 -- `blitlist::started` meets its contract: four writes, one after the other. Assumes nothing.
+use mathlib.Core.Path.{_∙_}
 use Rattle.blitlist.specs.Laid.{startedAt}
 use borrow.Author.Needs.{needs}
 use Rattle.blitlist.proofs.started.Statement.{statement}
@@ -21,7 +22,7 @@ write-requires-4 c κs = search needs
 
 returns : tie.Need-returns
 unfolding startedAt
-returns c = cc (c .before .write4 .ensures .1, c .before .before .before .write3 .ensures .1, c .before .before .before .before .before .write2 .ensures .1, c .before .before .before .before .before .before .before .write .ensures .1, c .before .before .before .before .before .before .before .before .new .ensures)
+returns c = c .before .write4 .ensures .1 ∙ simp (c .before .before .before .write3 .ensures .1, c .before .before .before .before .before .write2 .ensures .1, c .before .before .before .before .before .before .before .write .ensures .1, c .before .before .before .before .before .before .before .before .new .ensures)
 
 pub started-spec : {M : Type 1} → statement M
 started-spec =
