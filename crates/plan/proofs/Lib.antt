@@ -5,5 +5,6 @@ pub mod Valid
 mod Checking
 mod Writing
 pub mod Compiling
+pub mod Refused
 mod Cases
 mod Once

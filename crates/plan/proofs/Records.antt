@@ -25,6 +25,10 @@ pub size-le : (it : Item) → sizeOf it ≤ 22
 size-le (full b) = omega arith
 size-le (running b) = omega arith
 
+pub size-some : (it : Item) → 1 ≤ sizeOf it
+size-some (full b) = omega arith
+size-some (running b) = omega arith
+
 -- a list of bytes
 abbrev pub Bytes : List ℕ → Type 0
 Bytes xs = (i : ℕ) → getD xs i 0 < 256
