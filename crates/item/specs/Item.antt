@@ -4,6 +4,7 @@ use mathlib.Core.List.{List}
 use Prim.Native.Nat.{ℕ, _+_, _*_, _-_}
 use lib.Dec.{eqb, ltb, leb}
 use lib.ListN.{length, getD}
+use Rattle.refusal.specs.Sheet.{numberOf, Told, done, refused}
 use Rattle.refusal.specs.declared.Refusal.{Refusal}
 use Rattle.refusal.specs.declared.Refusal.the-variants.{PlanCut, Kind, Length, Field, First, Lines}
 use Rattle.item.specs.declared.Full.{Full}
@@ -128,3 +129,16 @@ itemAt s at n total =
     (must (eqb (number2 s at) size) Length
     (must (leb (4 + size) (length s - at)) PlanCut
     (fitted (bodyAt s (at + 4) kind) n total (at + 4 + size)))))
+
+-- what is told of the item at a place: the item and where the next begins
+pub record ItemRead : Type 0 where
+  pub item : Item
+  pub next : ℕ
+
+-- the paper's number and values for each case: "Numbers 5 and 7 to 11 come with the item's number from 0"
+abbrev pub itemTold : ℕ → Read → Told ItemRead
+itemTold n (Is it next) = done (record { item = it; next = next })
+itemTold n (Bad why) = refused (numberOf why) n
+
+abbrev pub itemAnswer : List ℕ → ℕ → ℕ → ℕ → Told ItemRead
+itemAnswer s at n total = itemTold n (itemAt s at n total)

@@ -1,7 +1,7 @@
 ghost use mathlib.Core.Path.{_≡_};
 ghost use Prim.Native.Nat.{_+_, _≤_};
 ghost use lib.ListN.{length};
-ghost use Rattle.item.specs.Item.{number2, number3, fullAt, runningAt, soundFull, soundRunning, soundItem, linesOf, isFull, bodySize, bodyAt, fitted, itemAt};
+ghost use Rattle.item.specs.Item.{number2, number3, fullAt, runningAt, soundFull, soundRunning, soundItem, linesOf, isFull, bodySize, bodyAt, fitted, itemTold, itemAnswer};
 use refusal::Refusal;
 
 // Kind 1, a full band, field by field as the plan has it.
@@ -215,7 +215,7 @@ fn body_at(plan: &[u8], at: usize, kind: u16) -> Item
 // The item at a place of a plan: n is its number, total the lines of the items before it.
 // 5 header, 7 kind, 8 length, 5 body, then the item's own. Both passes of the compiler read by this.
 pub fn item_at(plan: &[u8], at: usize, n: u32, total: u8) -> Read
-    ensures { λ r. ⌜ r ≡ itemAt (now (plan .entry)) at n total ⌝ }
+    ensures { λ r. ⌜ itemTold n r ≡ itemAnswer (now (plan .entry)) at n total ⌝ }
 {
     if plan.len() < at {
         return Read::Bad(Refusal::PlanCut);

@@ -8,7 +8,7 @@ use lib.ListN.{length}
 use borrow.Author.Needs.{needs}
 use borrow.Author.Tests.{le-leb, lt-leb, eq-eqb, ne-eqb, not-true, not-false}
 use denote.Ref.{now}
-use Rattle.item.specs.Item.{number2, bodySize, bodyAt, itemAt}
+use Rattle.item.specs.Item.{number2, bodySize, bodyAt, itemAt, itemTold}
 use Rattle.item.proofs.item_at.Statement.{statement}
 use Rattle.item.proofs.item_at.Tie as tie
 
@@ -99,7 +99,7 @@ returns-6 c =
     let e = c .before .before .before in
     let k = e .before .before .before in
     simp (header (k .before .before), known k, exact e, ← sized (e .before .before), le-leb _ _ (c .before .before .if5 .left), ← body (c .before))
-    (c .fitting .ensures)
+    (ap (itemTold _) (c .fitting .ensures))
 
 pub item-at-spec : {M : Type 1} → statement M
 item-at-spec =

@@ -6,6 +6,7 @@ use lib.ListN.{length}
 use borrow.Author.Needs.{needs}
 use denote.Ref.{now}
 use Rattle.item.proofs.Taken.{taken}
+use Rattle.item.proofs.Told.{item-one}
 use Rattle.item.specs.Item.{itemAt}
 use Rattle.item.specs.declared.Read.the-variants.{Is}
 use Rattle.plan.specs.Compile.{checkedOf}
@@ -26,7 +27,7 @@ read :
     (c : tie.After-r2 Inv-loop μ-loop)
     → itemAt (now (c .before .before .before .before .before .before .before .args .plan)) (c .before .before .before .before .loop .at) (c .before .before .before .before .loop .n) (c .before .before .before .before .loop .total)
     ≡ Is (c .r2 .given .0 .0) (c .r2 .given .0 .1 .0)
-read c = sym (c .before .before .item-at .ensures) ∙ c .r2 .given .1
+read c = sym (item-one _ _ _ (c .before .before .item-at .ensures)) ∙ c .r2 .given .1
 
 returns : tie.Need-returns Inv-loop μ-loop
 returns c = ap checkedOf (sym (parse-none (c .before .before .args .plan .now) (c .if1 .taken)))
@@ -43,7 +44,7 @@ enum-known-r c = search needs
 returns-2 : tie.Need-returns-2 Inv-loop μ-loop
 returns-2 c =
     let m = c .before in
-    check-bad _ _ _ _ _ (m .before .before .before .before .loop .inv) _ (m .before .before .before .loop-test .taken) (sym (m .before .before .item-at .ensures) ∙ m .r .given .1)
+    check-bad _ _ _ _ _ (m .before .before .before .before .loop .inv) _ (m .before .before .before .loop-test .taken) (sym (item-one _ _ _ (m .before .before .item-at .ensures)) ∙ m .r .given .1)
     ∙ ap checkedOf (sym (parse-rest _ (m .before .before .before .before .before .if1 .left)))
 
 enum-known-r-2 : tie.Need-enum-known-r-2 Inv-loop μ-loop

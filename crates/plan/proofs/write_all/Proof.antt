@@ -6,6 +6,7 @@ use lib.ListN.{length}
 use borrow.Author.Needs.{needs}
 use denote.Ref.{now}
 use Rattle.item.proofs.Taken.{taken}
+use Rattle.item.proofs.Told.{item-one}
 use Rattle.item.specs.Item.{itemAt}
 use Rattle.item.specs.declared.Read.the-variants.{Is}
 use Rattle.plan.proofs.Writing.{Writing, write-start, write-never, write-fits, write-may, write-turn, write-end}
@@ -23,7 +24,7 @@ read :
     (c : tie.After-r Inv-loop μ-loop)
     → itemAt (now (c .before .before .before .before .before .before .before .args .plan)) (c .before .before .before .before .loop .at) (c .before .before .before .before .loop .n) (c .before .before .before .before .loop .total)
     ≡ Is (c .r .given .0 .0) (c .r .given .0 .1 .0)
-read c = sym (c .before .before .item-at .ensures) ∙ c .r .given .1
+read c = sym (item-one _ _ _ (c .before .before .item-at .ensures)) ∙ c .r .given .1
 
 loop-holds : tie.Need-loop-holds Inv-loop μ-loop
 loop-holds c = write-start _ _ (c .before .before .pre .0) (c .before .before .pre .1)
@@ -38,7 +39,7 @@ same-length : tie.Need-same-length Inv-loop μ-loop
 same-length c = c .before .before .before .before .loop .inv .long
 
 returns : tie.Need-returns Inv-loop μ-loop
-returns c = write-never _ _ _ _ _ _ _ (c .before .before .before .before .loop .inv) (c .before .before .before .loop-test .taken) _ (sym (c .before .before .item-at .ensures) ∙ c .enum-told .given .1)
+returns c = write-never _ _ _ _ _ _ _ (c .before .before .before .before .loop .inv) (c .before .before .before .loop-test .taken) _ (sym (item-one _ _ _ (c .before .before .item-at .ensures)) ∙ c .enum-told .given .1)
 
 enum-known-r : tie.Need-enum-known-r Inv-loop μ-loop
 enum-known-r c = search needs
