@@ -6,7 +6,7 @@ use Prim.Native.Nat.{ℕ, _+_, _-_, _≤_, _<_}
 use native.Mathlib.Omega.{arith}
 use lib.Dec.{eqb, ltb, leb}
 use lib.ListN.{length}
-use borrow.Author.Tests.{leb-true}
+use borrow.Author.Tests.{leb-true, eqb-true}
 use Rattle.laws.proofs.Choice.{by-cond}
 use Rattle.refusal.specs.declared.Refusal.{Refusal}
 use Rattle.refusal.specs.declared.Refusal.the-variants.{PlanCut, Kind, Length, Field, First, Lines}
@@ -27,7 +27,10 @@ pub record Fits (n total : ℕ) (it : Item) : Type 0 where
   pub lines : total + linesOf it ≤ 240
 
 pub record Taken (s : List ℕ) (at n total : ℕ) (it : Item) (next : ℕ) : Type 0 where
+  pub kind : eqb (number2 s (at + 2)) 1 || eqb (number2 s (at + 2)) 2 ≡ true
+  pub size : number2 s at ≡ bodySize (number2 s (at + 2))
   pub body : bodyAt s (at + 4) (number2 s (at + 2)) ≡ it
+  pub behind : at + 4 + bodySize (number2 s (at + 2)) ≡ next
   pub on : at + 4 ≤ next
   pub within : next ≤ length s
   pub fits : Fits n total it
@@ -53,4 +56,12 @@ taken s at n total it next e =
     let here : at + 4 + size ≡ next = cc (g .0) in
     let same : bodyAt s (at + 4) kind ≡ it = cc (g .0) in
     let room = leb-true (4 + size) (length s - at) (f .0) in
-    record { body = same; on = omega arith; within = omega arith; fits = rw same at (g .1) }
+    record {
+      kind = b .0;
+      size = eqb-true (number2 s at) size (d .0);
+      body = same;
+      behind = here;
+      on = omega arith;
+      within = omega arith;
+      fits = rw same at (g .1);
+    }

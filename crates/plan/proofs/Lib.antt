@@ -2,6 +2,7 @@
 pub mod Records
 pub mod Walk
 pub mod Valid
+pub mod Rules
 mod Checking
 mod Writing
 pub mod Compiling

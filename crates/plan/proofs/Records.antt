@@ -14,6 +14,7 @@ use Rattle.item.specs.Item.{soundItem}
 use Rattle.item.specs.declared.Item.{Item}
 use Rattle.item.specs.declared.Item.the-variants.{Full as full, Running as running}
 use Rattle.item.proofs.Ranges.{full-fits, running-fits}
+use Rattle.plan.specs.Rules.{Bytes}
 use Rattle.plan.specs.Xdl.{overlayBit, mapBit, resolutionBit, endBit, fullRecord, runningRecord, recordOf, sizeOf}
 
 pub length-record : (it : Item) (last : Bool) → length (recordOf it last) ≡ sizeOf it
@@ -29,11 +30,7 @@ pub size-some : (it : Item) → 1 ≤ sizeOf it
 size-some (full b) = omega arith
 size-some (running b) = omega arith
 
--- a list of bytes
-abbrev pub Bytes : List ℕ → Type 0
-Bytes xs = (i : ℕ) → getD xs i 0 < 256
-
--- the same, byte by byte
+-- bytes, one by one
 abbrev Each : List ℕ → Type 0
 Each [] = Unit
 Each (x ∷ xs) = (x < 256) × Each xs

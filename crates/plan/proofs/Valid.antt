@@ -16,24 +16,10 @@ use Rattle.item.specs.declared.Read.the-variants.{Is}
 use Rattle.item.proofs.Ranges.{some-line}
 use Rattle.item.proofs.Taken.{taken}
 use Rattle.plan.specs.Plan.{Parsed, good, bad, rest, parse, itemsOf}
+use Rattle.plan.specs.Rules.{Bytes, StartsFull, AllSound, linesIn}
 use Rattle.plan.specs.Xdl.{isEmpty, recordOf, sizeOf, bytesOf, xdlBytes}
-use Rattle.plan.proofs.Records.{length-record, size-le, Bytes, bytes-append, Open, bytes-record}
+use Rattle.plan.proofs.Records.{length-record, size-le, bytes-append, Open, bytes-record}
 use Rattle.plan.proofs.Walk.{bad-good, uncons, last-is, parse-none, parse-taken}
-
--- each item is sound
-abbrev pub AllSound : List Item → Type 0
-AllSound [] = Unit
-AllSound (it ∷ l) = (soundItem it ≡ true) × AllSound l
-
--- the first item is a full band; so there is one
-abbrev pub StartsFull : List Item → Type 0
-StartsFull [] = ⊥
-StartsFull (it ∷ l) = isFull it ≡ true
-
--- the lines of all items
-abbrev pub linesIn : List Item → ℕ
-linesIn [] = 0
-linesIn (it ∷ l) = linesOf it + linesIn l
 
 module _ (s : List ℕ) where
   rest-sound : (l : List Item) (at n total : ℕ) → n ≤ at → rest s at n total ≡ good l → AllSound l
