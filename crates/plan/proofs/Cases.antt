@@ -1,7 +1,8 @@
 -- The definitions tried on small plans: the paper's example, and the meaning of bands that run on and end. Assumes nothing.
-use mathlib.Core.Path.{_≡_, refl}
+use mathlib.Core.Path.{_≡_, refl, sym, ap, _∙_}
 use mathlib.Core.List.{List, [], _∷_}
 use Prim.Native.Nat.{ℕ}
+use native.Mathlib.Omega.{arith}
 use lib.ListN.{drop, replicate}
 use Rattle.refusal.specs.Sheet.{Told, done, refused}
 use Rattle.settings.specs.Settings.{off}
@@ -10,10 +11,12 @@ use Rattle.settings.specs.declared.Settings.{Settings}
 use Rattle.item.specs.Item.{fullAt, runningAt, soundFull, soundRunning, fitted, itemAt}
 use Rattle.item.specs.declared.Item.{Item}
 use Rattle.item.specs.declared.Item.the-variants.{Full as full, Running as running}
-use Rattle.plan.specs.Plan.{parseFrom, rest, parse}
+use Rattle.plan.specs.Plan.{good, parseFrom, rest, parse}
+use Rattle.plan.specs.Rules.{fullBytes, planBytes, Keeps}
 use Rattle.plan.specs.Xdl.{fullRecord, runningRecord, xdlBytes}
 use Rattle.plan.specs.Compile.{compileAnswer, compileOutput}
 use Rattle.plan.specs.Meaning.{fullSettings, runningSettings, meaningFrom, meaning}
+use Rattle.plan.proofs.Rules.{rules-suffice}
 
 -- the example of document 01, "At the edges"
 abbrev plan : List ℕ
@@ -62,6 +65,21 @@ band lines mode address step map mapstep height =
 abbrev onward : ℕ → ℕ → ℕ → Item
 onward lines hscroll palettes =
     running (record { lines = lines; hscroll = hscroll; vscroll = 0; font = 0; width = 1; palettes = palettes; priority = 255 })
+
+-- the example's one item, written out: it keeps the rules, so the plan is read as it
+abbrev items : List Item
+items = band 1 0 0 0 0 0 1 ∷ []
+
+written : planBytes items ≡ plan
+unfolding fullBytes
+written = refl
+
+keeps : Keeps items
+unfolding soundFull
+keeps = record { first = refl; sound = (refl, tt); lines = omega arith }
+
+pub example-read : parse plan ≡ good items
+example-read = ap parse (sym written) ∙ rules-suffice items keeps
 
 -- mode, address, text counter; map address, field counter; hscroll and the palettes
 abbrev shown : Settings → List ℕ
