@@ -3,7 +3,7 @@ use mathlib.Core.Path.{_≡_, refl}
 use mathlib.Core.List.{[]}
 use lib.Count.{ones, onesIn}
 use Rattle.step.specs.Step.{signed, stepX, stepY, wrap19, sideAddress}
-use Rattle.mode.specs.Mode.{overNibble, over, valueIn, hits, codeBy, codeByte, codeNibbles, codeIn}
+use Rattle.mode.specs.Mode.{overNibble, over, valueIn, writesIn, costIn, accessesIn, strokeOf, hits, codeBy, codeByte, codeNibbles, codeIn}
 use Rattle.block.specs.Block.{noSide, patternOf, sourceAddress}
 use Rattle.settings.specs.Settings.{advanced, advancedOverlay, advancedMap, off}
 use Rattle.record.specs.Record.{controlled, repeatGroup, addressGroup, scrollGroup, fontGroup, mapGroup, fieldGroup, lookGroup, restarted}
@@ -11,5 +11,5 @@ use Rattle.frame.specs.Frame.{fetched, shown, nextFrame}
 use Rattle.cases.specs.Table.{wrong, table, linesFrom}
 
 pub all-cases : wrong table ≡ []
-unfolding signed stepX stepY wrap19 sideAddress overNibble over valueIn hits codeBy codeByte codeNibbles codeIn noSide patternOf sourceAddress advanced advancedOverlay advancedMap off controlled repeatGroup addressGroup scrollGroup fontGroup mapGroup fieldGroup lookGroup restarted fetched shown nextFrame linesFrom ones onesIn
+unfolding signed stepX stepY wrap19 sideAddress overNibble over valueIn writesIn costIn accessesIn strokeOf hits codeBy codeByte codeNibbles codeIn noSide patternOf sourceAddress advanced advancedOverlay advancedMap off controlled repeatGroup addressGroup scrollGroup fontGroup mapGroup fieldGroup lookGroup restarted fetched shown nextFrame linesFrom ones onesIn
 all-cases = refl

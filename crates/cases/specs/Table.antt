@@ -9,7 +9,8 @@ use lib.ListN.{replicate}
 use Rattle.refusal.specs.Sheet.{Told, done, refused}
 use Rattle.step.specs.Step.{stepY}
 use Rattle.step.specs.declared.Side.{Side}
-use Rattle.mode.specs.Mode.{valueIn, codeIn}
+use Rattle.mode.specs.Mode.{codeIn, strokeOf}
+use Rattle.mode.specs.declared.Stroke.{Stroke}
 use Rattle.block.specs.Block.{noSide, sourceAddress}
 use Rattle.block.specs.declared.Block.{Block}
 use Rattle.settings.specs.declared.Settings.{Settings}
@@ -29,6 +30,10 @@ signedAs (negsuc n) = 1 ∷ (n + 1) ∷ []
 -- the code after a byte in mode 1 with s = 1; 7 stands for a code from before, so "none" is 7
 abbrev pub codeFor : ℕ → ℕ → ℕ
 codeFor mask d = codeIn 1 mask 1 d 7
+
+-- one byte: 1 where it is written and 0 where not, what is written, and the code after it
+abbrev pub strokeAs : Stroke → List ℕ
+strokeAs k = cond (k .written) 1 0 ∷ k .value ∷ k .code ∷ []
 
 -- a block with W = 10 and Q = 4 whose source begins at 0 and steps by 1: its source addresses are its source columns
 abbrev pub patterned : Block
@@ -51,7 +56,8 @@ abbrev pub sourceColumns : ℕ → ℕ → List ℕ
 sourceColumns zero from = []
 sourceColumns (suc n) from = sourceAddress patterned 0 from ∷ sourceColumns n (from + 1)
 
--- a memory of 16,384 bytes that begins with an XDL, and the mode and overlay address of the first lines it shows; mode 0 is off, 2 SR
+-- a memory of 16,384 bytes that begins with an XDL, and the mode and overlay address of the first lines it shows; mode 0 is off, 2 SR.
+-- "Control 03 00" comes behind a record that switches SR on, so that a rule which keeps the mode would show
 abbrev pub lineAs : Told Settings → List ℕ → List ℕ
 lineAs (done s) more = s .overlay .mode ∷ s .overlay .address ∷ more
 lineAs (refused number item) more = number ∷ []
@@ -70,12 +76,12 @@ table =
     ∷ record { says = "step y bytes FF 0F: 4095"; gives = signedAs (stepY 0xFF 0x0F); paper = 0 ∷ 4095 ∷ [] }
     ∷ record { says = "mode 1, s=1, mask 02: d=31 none, 32 gives code 32"; gives = codeFor 0x02 31 ∷ codeFor 0x02 32 ∷ []; paper = 7 ∷ 32 ∷ [] }
     ∷ record { says = "the same with mask 01, d=0: none; d=1 gives 1"; gives = codeFor 0x01 0 ∷ codeFor 0x01 1 ∷ []; paper = 7 ∷ 1 ∷ [] }
-    ∷ record { says = "mode 2, d=200, s=100: 44"; gives = valueIn 2 100 200 ∷ []; paper = 44 ∷ [] }
-    ∷ record { says = "mode 6, s=50h, d=9Ah, mask 10h, code 0: writes 5Ah, code 90h"; gives = valueIn 6 0x50 0x9A ∷ codeIn 6 0x10 0x50 0x9A 0 ∷ []; paper = 0x5A ∷ 0x90 ∷ [] }
+    ∷ record { says = "mode 2, d=200, s=100: 44"; gives = strokeAs (strokeOf 2 0 100 200 7); paper = 1 ∷ 44 ∷ 7 ∷ [] }
+    ∷ record { says = "mode 6, s=50h, d=9Ah, mask 10h, code 0: writes 5Ah, code 90h"; gives = strokeAs (strokeOf 6 0x10 0x50 0x9A 0); paper = 1 ∷ 0x5A ∷ 0x90 ∷ [] }
     ∷ record { says = "W=10, Q=4: source columns 0 1 2 3 0 1 2 3 0 1"; gives = sourceColumns 10 0; paper = 0 ∷ 1 ∷ 2 ∷ 3 ∷ 0 ∷ 1 ∷ 2 ∷ 3 ∷ 0 ∷ 1 ∷ [] }
     ∷ record { says = "XDL 62 80 02 00 10 00 40 01: SR at 1000h, 1140h, 1280h, then off, address 13C0h"; gives = linesOf 4 (0x62 ∷ 0x80 ∷ 0x02 ∷ 0x00 ∷ 0x10 ∷ 0x00 ∷ 0x40 ∷ 0x01 ∷ []) 16376; paper = 2 ∷ 0x1000 ∷ 2 ∷ 0x1140 ∷ 2 ∷ 0x1280 ∷ 0 ∷ 0x13C0 ∷ [] }
     ∷ record { says = "SR, OVADR 7FFFFh, step 1: next line 0"; gives = linesOf 2 (0x62 ∷ 0x00 ∷ 0x01 ∷ 0xFF ∷ 0xFF ∷ 0x07 ∷ 0x01 ∷ 0x00 ∷ []) 16376; paper = 2 ∷ 0x7FFFF ∷ 2 ∷ 0 ∷ [] }
-    ∷ record { says = "control 03 00: off"; gives = linesOf 1 (0x03 ∷ 0x00 ∷ []) 16382; paper = 0 ∷ 0 ∷ [] }
+    ∷ record { says = "control 03 00: off"; gives = linesOf 2 (0x02 ∷ 0x00 ∷ 0x03 ∷ 0x00 ∷ []) 16380; paper = 2 ∷ 0 ∷ 0 ∷ 0 ∷ [] }
     ∷ []
 
 -- the words of the cases that come out otherwise than the paper says

@@ -12,7 +12,7 @@ use Rattle.item.specs.Item.{fullAt, runningAt, soundFull, soundRunning, fitted,
 use Rattle.item.specs.declared.Item.{Item}
 use Rattle.item.specs.declared.Item.the-variants.{Full as full, Running as running}
 use Rattle.plan.specs.Plan.{good, parseFrom, rest, parse}
-use Rattle.plan.specs.Rules.{fullBytes, planBytes, Keeps}
+use Rattle.plan.specs.Rules.{fullBytes, planBytes}
 use Rattle.plan.specs.Xdl.{fullRecord, runningRecord, xdlBytes}
 use Rattle.plan.specs.Compile.{compileAnswer, compileOutput}
 use Rattle.plan.specs.Meaning.{fullSettings, runningSettings, meaningFrom, meaning}
@@ -74,12 +74,9 @@ written : planBytes items ≡ plan
 unfolding fullBytes
 written = refl
 
-keeps : Keeps items
-unfolding soundFull
-keeps = record { first = refl; sound = (refl, tt); lines = omega arith }
-
 pub example-read : parse plan ≡ good items
-example-read = ap parse (sym written) ∙ rules-suffice items keeps
+unfolding soundFull
+example-read = ap parse (sym written) ∙ rules-suffice items refl (refl, tt) (omega arith)
 
 -- mode, address, text counter; map address, field counter; hscroll and the palettes
 abbrev shown : Settings → List ℕ

@@ -159,10 +159,8 @@ module _ (s : List ℕ) (b : Bytes s) where
       ∙ ap (λ (x : List ℕ). itemBytes it ++ x) (rest-forth l (u .next) (n + 1) (total + linesOf it) (omega (arith, t .on)) (t .within) (u .more))
 
 pub rules-needed : RulesNeeded
-rules-needed s l b e = (
-  rest-forth s b l 0 0 0 zero-le zero-le (sym (parse-taken s l e) ∙ e),
-  record { first = starts-full s l e; sound = all-sound s l e; lines = all-lines s l e },
-)
+rules-needed s l b e =
+    (rest-forth s b l 0 0 0 zero-le zero-le (sym (parse-taken s l e) ∙ e), starts-full s l e, all-sound s l e, all-lines s l e)
 
 -- 4. The bytes of an item are read back as the item.
 module _ (more : List ℕ) where
@@ -234,8 +232,8 @@ some-bytes [] f e = f
 some-bytes (it ∷ l) f e = absurd (omega (arith, length-append (itemBytes it) (planBytes l), item-some it))
 
 pub rules-suffice : RulesSuffice
-rules-suffice [] k = absurd (k .first)
-rules-suffice (it ∷ l) k =
+rules-suffice [] first sound lines = absurd first
+rules-suffice (it ∷ l) first sound lines =
     let items = it ∷ l in
-    parse-rest (planBytes items) (some-bytes items (k .first))
-    ∙ rest-back (planBytes items) items 0 0 0 refl zero-le zero-le (k .sound) (inl (k .first)) (omega (arith, k .lines))
+    parse-rest (planBytes items) (some-bytes items first)
+    ∙ rest-back (planBytes items) items 0 0 0 refl zero-le zero-le sound (inl first) (omega arith)

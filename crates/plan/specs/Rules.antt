@@ -83,16 +83,16 @@ abbrev pub linesIn : List Item → ℕ
 linesIn [] = 0
 linesIn (it ∷ more) = linesOf it + linesIn more
 
--- the items break no rule; 5, 7 and 8 are about bytes that are no items
-pub record Keeps (items : List Item) : Type 0 where
-  pub first : StartsFull items
-  pub sound : AllSound items
-  pub lines : linesIn items ≤ 240
-
--- the bytes of items that keep the rules are read as these items,
+-- The items break no rule if they begin with a full band, are sound and have 240 lines at most; 5, 7 and 8 are about bytes that are no items.
+-- The bytes of such items are read as these items,
 abbrev pub RulesSuffice : Type 0
-RulesSuffice = (items : List Item) → Keeps items → parse (planBytes items) ≡ good items
+RulesSuffice =
+    (items : List Item) → StartsFull items → AllSound items → linesIn items ≤ 240
+    → parse (planBytes items) ≡ good items
 
--- and a plan that is read as items is their bytes, and they keep the rules
+-- and a plan that is read as items is their bytes, and they are such
 abbrev pub RulesNeeded : Type 0
-RulesNeeded = (plan : List ℕ) (items : List Item) → Bytes plan → parse plan ≡ good items → (plan ≡ planBytes items) × Keeps items
+RulesNeeded =
+    (plan : List ℕ) (items : List Item) → Bytes plan
+    → parse plan ≡ good items
+    → (plan ≡ planBytes items) × StartsFull items × AllSound items × (linesIn items ≤ 240)

@@ -7,7 +7,7 @@ use Prim.Native.Nat.{ℕ, zero, suc, _<_}
 use native.Mathlib.Omega.{arith}
 use lib.Count.{ones}
 use lib.Dec.{lit<, ltb}
-use lib.ListN.{replicate, length-replicate}
+use lib.ListN.{length, replicate, length-replicate}
 use borrow.Author.Tests.{ltb-true}
 use Rattle.laws.proofs.Choice.{both}
 use Rattle.refusal.specs.Sheet.{Told, done}
@@ -20,12 +20,12 @@ use Rattle.block.specs.Block.{noSide, noneSide, noBlock, isNone}
 use Rattle.blitter.specs.State.{soundBlitter}
 use Rattle.board.specs.Board.{newBoard, soundBoard}
 use Rattle.item.specs.Item.{fullAt, runningAt, soundFull, soundRunning, fitted, itemAt}
-use Rattle.plan.specs.Plan.{parseFrom, rest, parse}
-use Rattle.plan.specs.Xdl.{fullRecord, runningRecord}
-use Rattle.plan.specs.Compile.{compileAnswer}
+use Rattle.plan.specs.Plan.{good, parseFrom, rest, parse, itemsOf}
+use Rattle.plan.specs.Rules.{Bytes}
+use Rattle.plan.specs.Xdl.{fullRecord, runningRecord, bytesOf}
 use Rattle.plan.specs.Meaning.{fullSettings, runningSettings, meaningFrom, planMeans}
-use Rattle.shows.specs.Shows.{Bytes, started, lineOf, Given, listOf}
-use Rattle.shows.proofs.Theorem.{installed}
+use Rattle.shows.specs.Shows.{started, lineOf, Desk, Valid, listOf}
+use Rattle.shows.proofs.Theorem.{demand-3}
 
 -- bytes that are written out, and zeros
 abbrev all-below : List ℕ → Bool
@@ -55,31 +55,34 @@ new-sound = refl
 
 -- line k of a plan whose list has n bytes
 abbrev line : List ℕ → ℕ → ℕ → Told Settings
-line plan n k = lineOf (started 524286 1 newBoard) (installMemory memory (listOf plan (replicate n 0) n) 524286) k
+line plan n k = lineOf (started 524286 1 newBoard) (installMemory memory (listOf plan (replicate n 0) (itemsOf (parse plan))) 524286) k
 
-module _ (plan : List ℕ) (n : ℕ) (bytes : all-below plan ≡ true) (taken : compileAnswer plan n ≡ done n) where
-  given : Given plan (replicate n 0) memory n 524286 1 newBoard
-  given =
-      record {
-        plan-bytes = bytes-below plan bytes;
-        mem-bytes = zeros-below 16384;
-        compiled = ap (compileAnswer plan) (length-replicate {A = ℕ} n 0) ∙ taken;
-        board = ap goodLength (length-replicate {A = ℕ} 16384 0) ∙ smallest;
-        at-most = omega arith;
-        sound = new-sound;
-        on = refl;
-      }
+desk : Desk memory 524286 1 newBoard
+desk =
+    record {
+      bytes = zeros-below 16384;
+      board = ap goodLength (length-replicate {A = ℕ} 16384 0) ∙ smallest;
+      at-most = omega arith;
+      sound = new-sound;
+      on = refl;
+    }
+
+module _
+    (plan : List ℕ) (n : ℕ) (bytes : all-below plan ≡ true) (taken : parse plan ≡ good (itemsOf (parse plan)))
+    (count : length (bytesOf (itemsOf (parse plan))) ≡ n) where
+  valid : Valid plan (replicate n 0) (itemsOf (parse plan))
+  valid = record { bytes = bytes-below plan bytes; rules = taken; room = omega (arith, length-replicate {A = ℕ} n 0) }
 
   line-is : (k : ℕ) → k < 240 → line plan n k ≡ done (planMeans plan k)
-  line-is = installed plan (replicate n 0) memory n 524286 1 newBoard given .1
+  line-is = demand-3 plan (replicate n 0) memory (itemsOf (parse plan)) 524286 1 newBoard valid desk .lines
 
 -- "17 00 01 00, 01, seventeen bytes 00, 08 01 01 01 FF"
 abbrev example : List ℕ
 example = 0x17 ∷ 0 ∷ 1 ∷ 0 ∷ 1 ∷ (replicate 17 0 ++ (8 ∷ 1 ∷ 1 ∷ 1 ∷ 255 ∷ []))
 
-example-taken : compileAnswer example 22 ≡ done 22
-unfolding compileAnswer parse rest parseFrom itemAt fitted fullAt soundFull fullRecord
-example-taken = refl
+example-taken : (parse example ≡ good (itemsOf (parse example))) × (length (bytesOf (itemsOf (parse example))) ≡ 22)
+unfolding parse rest parseFrom itemAt fitted fullAt soundFull fullRecord
+example-taken = (refl, refl)
 
 -- everything off, a field of 8 by 1
 abbrev example-line : Settings
@@ -92,11 +95,11 @@ example-line =
 
 pub example-first : line example 22 0 ≡ done example-line
 unfolding parse rest parseFrom itemAt fitted fullAt soundFull meaningFrom fullSettings settingsBelow overlayBelow mapBelow
-example-first = line-is example 22 refl example-taken 0 (lit< tt)
+example-first = line-is example 22 refl (example-taken .0) (example-taken .1) 0 (lit< tt)
 
 pub example-last : line example 22 239 ≡ done example-line
 unfolding parse rest parseFrom itemAt fitted fullAt soundFull meaningFrom fullSettings settingsBelow overlayBelow mapBelow off
-example-last = line-is example 22 refl example-taken 239 (lit< tt)
+example-last = line-is example 22 refl (example-taken .0) (example-taken .1) 239 (lit< tt)
 
 -- twelve lines of text from 524,272 on, 40 bytes a row, and a map from 1,000 on with fields 5 lines high, 80 bytes a row; then four lines that run on
 abbrev rows : List ℕ
@@ -107,9 +110,9 @@ rows =
     ∷ 4 ∷ 6 ∷ 7 ∷ 8 ∷ 0 ∷ 14 ∷ 33
     ∷ []
 
-rows-taken : compileAnswer rows 30 ≡ done 30
-unfolding compileAnswer parse rest parseFrom itemAt fitted fullAt soundFull runningAt soundRunning fullRecord runningRecord
-rows-taken = refl
+rows-taken : (parse rows ≡ good (itemsOf (parse rows))) × (length (bytesOf (itemsOf (parse rows))) ≡ 30)
+unfolding parse rest parseFrom itemAt fitted fullAt soundFull runningAt soundRunning fullRecord runningRecord
+rows-taken = (refl, refl)
 
 -- line 14 runs on: row 1 of text, line 6 of it; row 2 of the map, line 4 of it
 pub rows-running : line rows 30 14 ≡ done (record {
@@ -118,7 +121,7 @@ pub rows-running : line rows 30 14 ≡ done (record {
   look = record { width = 0; palette = 2; playfield = 3; priority = 33 };
 })
 unfolding parse rest parseFrom itemAt fitted fullAt soundFull runningAt soundRunning meaningFrom fullSettings runningSettings settingsBelow overlayBelow mapBelow
-rows-running = line-is rows 30 refl rows-taken 14 (lit< tt)
+rows-running = line-is rows 30 refl (rows-taken .0) (rows-taken .1) 14 (lit< tt)
 
 -- below the plan: off, and the rest held as 16 lines left it
 pub rows-below : line rows 30 239 ≡ done (record {
@@ -127,4 +130,4 @@ pub rows-below : line rows 30 239 ≡ done (record {
   look = record { width = 0; palette = 2; playfield = 3; priority = 33 };
 })
 unfolding parse rest parseFrom itemAt fitted fullAt soundFull runningAt soundRunning meaningFrom fullSettings runningSettings settingsBelow overlayBelow mapBelow off
-rows-below = line-is rows 30 refl rows-taken 239 (lit< tt)
+rows-below = line-is rows 30 refl (rows-taken .0) (rows-taken .1) 239 (lit< tt)

@@ -17,7 +17,7 @@ use Rattle.frame.specs.declared.Frame.{Frame}
 use Rattle.frame.proofs.Cases.{shown-on, next-on}
 use Rattle.frame.proofs.Lines.{next-line-is, line-first, line-more}
 use Rattle.frame.proofs.Sound.{sound-next}
-use Rattle.shows.specs.Shows.{Bytes}
+use Rattle.plan.specs.Rules.{Bytes}
 
 -- the same reader with other settings and another repeat
 abbrev pub readerAt : Settings → ℕ → Reader → Reader

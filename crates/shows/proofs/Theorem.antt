@@ -1,7 +1,7 @@
--- Demand 3: memory that holds a compiled plan's list shows the plan, on each of the 240 lines; installing the list makes memory hold it. Assumes nothing.
-use mathlib.Core.Path.{_≡_, refl, ap, _∙_, subst}
+-- Demand 3: memory that holds a plan's list shows the plan, on each of the 240 lines; a plan that breaks no rule is compiled, and installing its list makes memory hold it. Assumes nothing.
+use mathlib.Core.Path.{_≡_, refl, sym, ap, _∙_, subst}
 use mathlib.Core.Bool.{true}
-use mathlib.Core.List.{List, [], _∷_}
+use mathlib.Core.List.{List, [], _∷_, _++_}
 use Prim.Native.Nat.{ℕ, zero, suc, _+_, _<_}
 use native.Mathlib.Omega.{arith}
 use lib.ListN.{length, take, drop, set}
@@ -14,12 +14,14 @@ use Rattle.board.specs.declared.Board.{Board}
 use Rattle.frame.specs.Frame.{startOf}
 use Rattle.frame.specs.declared.Frame.{Frame}
 use Rattle.frame.proofs.Sound.{sound-start}
-use Rattle.plan.specs.Plan.{parse, itemsOf}
-use Rattle.plan.specs.Xdl.{xdlBytes}
-use Rattle.plan.specs.Meaning.{planMeans}
-use Rattle.plan.proofs.Compiling.{accepted}
-use Rattle.plan.proofs.Valid.{all-sound, starts-full, xdl-at-most, xdl-bytes}
-use Rattle.shows.specs.Shows.{Bytes, started, lineOf, Holds, Given, listOf, Held, Installed}
+use Rattle.item.specs.declared.Item.{Item}
+use Rattle.plan.specs.Plan.{Parsed, good, parse, itemsOf}
+use Rattle.plan.specs.Rules.{Bytes}
+use Rattle.plan.specs.Xdl.{bytesOf, xdlBytes}
+use Rattle.plan.specs.Compile.{compileAnswer}
+use Rattle.plan.proofs.Compiling.{accepted, compiles}
+use Rattle.plan.proofs.Valid.{all-sound, all-bytes, starts-full, at-most}
+use Rattle.shows.specs.Shows.{lineOf, EachLine, Desk, Valid, listOf, Demand3, Holds, Held}
 use Rattle.shows.proofs.Pointed.{started-is}
 use Rattle.shows.proofs.Seen.{told-seen}
 use Rattle.shows.proofs.Walk.{walked}
@@ -36,47 +38,71 @@ poured-bytes : (L : ℕ) (m : List ℕ) (a : ℕ) (vs : List ℕ) → Bytes m �
 poured-bytes L m a [] b c = b
 poured-bytes L m a (v ∷ vs) b c = poured-bytes L (set m (place L a) v) (a + 1) vs (set-bytes m (place L a) v b (c 0)) (λ n. c (suc n))
 
-module _ (plan out mem : List ℕ) (n address video : ℕ) (b : Board) (g : Given plan out mem n address video b) where
-  abbrev list : List ℕ
-  list = listOf plan out n
-
-  -- what compiling left is the plan's list
-  list-is : list ≡ xdlBytes plan
-  list-is =
-      let a = accepted plan out n (g .compiled) in
-      ap (take n) (a .output) ∙ take-at (xdlBytes plan) (drop n out) n (a .count)
-
-  -- any memory of bytes, of a board's length, that holds the list
-  shown-by :
-      (m : List ℕ) → Bytes m → goodLength (length m) ≡ true → Holds m address list
-      → (k : ℕ) → k < 240 → lineOf (started address video b) m k ≡ done (planMeans plan k)
-  unfolding xdlBytes
-  shown-by m bytes good h k lt =
-      let items = itemsOf (parse plan) in
-      let e = accepted plan out n (g .compiled) .items in
-      ap (λ (t : Told Frame). lineOf t m k) (started-is b address video (g .sound) (g .at-most) (g .on))
-      ∙ (told-seen m good bytes k (startOf address 1) (sound-start address 1 (omega (arith, g .at-most))) refl (omega arith)
-      ∙ ap done (walked m items address (all-sound plan items e) (starts-full plan items e) (subst (Holds m address) list-is h) k))
-
-  -- installing
-  install-done : installAnswer mem list address ≡ done tt
-  install-done =
-      install.takes mem list address (record { board = g .board; address = g .at-most; room = rw list-is (xdl-at-most plan) })
-
-  installed-bytes : Bytes (installMemory mem list address)
-  installed-bytes =
-      rw (install.installed mem list address install-done)
-      (poured-bytes (length mem) mem address list (g .mem-bytes) (rw list-is (xdl-bytes plan (g .plan-bytes))))
-
-  installed-shows : (k : ℕ) → k < 240 → lineOf (started address video b) (installMemory mem list address) k ≡ done (planMeans plan k)
-  installed-shows =
-      shown-by (installMemory mem list address) installed-bytes
-      (ap goodLength (install.install-length mem list address) ∙ g .board)
-      (install.installed-byte mem list address install-done)
+module _ (items : List Item) (address video : ℕ) (b : Board) where
+  -- any memory that holds the list
+  shown-by : (plan mem : List ℕ) → parse plan ≡ good items → Desk mem address video b → Holds mem address (bytesOf items) → EachLine mem items address video b
+  shown-by plan mem e d h k lt =
+      ap (λ (t : Told Frame). lineOf t mem k) (started-is b address video (d .sound) (d .at-most) (d .on))
+      ∙ (told-seen mem (d .board) (d .bytes) k (startOf address 1) (sound-start address 1 (omega (arith, d .at-most))) refl (omega arith)
+      ∙ ap done (walked mem items address (all-sound plan items e) (starts-full plan items e) h k))
 
 pub held : Held
-held plan out mem n address video b g = shown-by plan out mem n address video b g mem (g .mem-bytes) (g .board)
+held plan mem items address video b e d h = shown-by items address video b plan mem e d h
 
-pub installed : Installed
-installed plan out mem n address video b g =
-    (install-done plan out mem n address video b g, installed-shows plan out mem n address video b g)
+module _ (plan out : List ℕ) (items : List Item) (v : Valid plan out items) where
+  abbrev list : List ℕ
+  list = listOf plan out items
+
+  bytes-are : xdlBytes plan ≡ bytesOf items
+  unfolding xdlBytes
+  bytes-are = ap (λ (p : Parsed). bytesOf (itemsOf p)) (v .rules)
+
+  taken : parse plan ≡ good (itemsOf (parse plan))
+  taken = v .rules ∙ ap (λ (p : Parsed). good (itemsOf p)) (sym (v .rules))
+
+  compile-done : compileAnswer plan (length out) ≡ done (length (bytesOf items))
+  compile-done =
+      compiles plan (length out) taken (rw bytes-are (v .room)) ∙ ap (λ (l : List ℕ). done (length l)) bytes-are
+
+  -- what compiling left is the plan's list
+  list-is : list ≡ bytesOf items
+  list-is =
+      let n = length (bytesOf items) in
+      let a = accepted plan out n compile-done in
+      ap (take n) (a .output ∙ ap (λ (l : List ℕ). l ++ drop n out) bytes-are) ∙ take-at (bytesOf items) (drop n out) n refl
+
+  module _ (mem : List ℕ) (address video : ℕ) (b : Board) (d : Desk mem address video b) where
+    abbrev after : List ℕ
+    after = installMemory mem list address
+
+    install-done : installAnswer mem list address ≡ done tt
+    install-done =
+        install.takes mem list address (record { board = d .board; address = d .at-most; room = rw list-is (at-most plan items (v .rules)) })
+
+    installed-bytes : Bytes after
+    installed-bytes =
+        rw (install.installed mem list address install-done)
+        (poured-bytes (length mem) mem address list (d .bytes) (rw list-is (all-bytes plan items (v .rules) (v .bytes))))
+
+    installed-desk : Desk after address video b
+    installed-desk =
+        record {
+          bytes = installed-bytes;
+          board = ap goodLength (install.install-length mem list address) ∙ d .board;
+          at-most = d .at-most;
+          sound = d .sound;
+          on = d .on;
+        }
+
+    installed-lines : EachLine after items address video b
+    installed-lines =
+        shown-by items address video b plan after (v .rules) installed-desk
+        (subst (Holds after address) list-is (install.installed-byte mem list address install-done))
+
+pub demand-3 : Demand3
+demand-3 plan out mem items address video b v d =
+    record {
+      compiled = compile-done plan out items v;
+      installed = install-done plan out items v mem address video b d;
+      lines = installed-lines plan out items v mem address video b d;
+    }

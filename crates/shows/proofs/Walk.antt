@@ -23,7 +23,7 @@ use Rattle.item.proofs.Ranges.{full-fits, some-line}
 use Rattle.plan.specs.Xdl.{isEmpty, recordOf, sizeOf, bytesOf}
 use Rattle.plan.specs.Meaning.{fullSettings, runningSettings, Latest, enter, lower, settingsAt, meaningFrom, meaning}
 use Rattle.plan.proofs.Records.{length-record}
-use Rattle.plan.proofs.Valid.{AllSound, StartsFull}
+use Rattle.plan.specs.Rules.{StartsFull, AllSound}
 use Rattle.shows.specs.Shows.{Holds}
 use Rattle.shows.proofs.Holding.{holds-front, holds-back}
 use Rattle.shows.proofs.Reading.{read-full, read-running}
