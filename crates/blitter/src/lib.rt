@@ -3,6 +3,7 @@ ghost use mathlib.Core.Bool.{cond};
 ghost use lib.Dec.{eqb};
 ghost use Rattle.blitter.specs.State.{newBlitter, inside, blank, soundBlitter, started, stopped, interrupts};
 use block::Block;
+use vram::Vram;
 
 // The blitter between two ticks: the interrupt's enable and request, the list address, the flags
 // (0 idle, 1 BCB_LOAD, 2 BUSY), the collision code, the block being done, and the position in it.
@@ -64,7 +65,7 @@ impl Blitter {
     pub fn sound(self) -> bool
         ensures { λ r. ⌜ r ≡ soundBlitter self ⌝ }
     {
-        (self.list < 524288) & (self.flags <= 2) & self.placed()
+        (self.list < Vram::ADDRESSES) & (self.flags <= 2) & self.placed()
     }
 
     // START: the list begins at BL_ADR, also when already running.

@@ -7,6 +7,7 @@ use blitter::Blitter;
 use engine::RunReport;
 use refusal::Outcome;
 use refusal::Refusal;
+use vram::Vram;
 
 // The registers that are only written to: VIDEO_CONTROL, XDL_ADR, BL_ADR, P0 to P3.
 pub struct Ports {
@@ -70,10 +71,15 @@ fn high_set(address: u32, value: u8) -> u32
 fn is_register(offset: u32) -> bool
     ensures { λ r. ⌜ r ≡ register offset ⌝ }
 {
-    (0x40 <= offset) & (offset <= 0x5F)
+    (Ports::FIRST <= offset) & (offset <= Ports::LAST)
 }
 
 impl Ports {
+    // The offsets at which the card answers.
+    pub const FIRST: u32 = 0x40;
+
+    pub const LAST: u32 = 0x5F;
+
     fn new() -> Ports
         ensures { λ r. ⌜ r ≡ newPorts ⌝ }
     {
@@ -91,7 +97,7 @@ impl Ports {
     fn sound(self) -> bool
         ensures { λ r. ⌜ r ≡ soundPorts self ⌝ }
     {
-        (self.video < 16) & (self.xdladr < 524288) & (self.bladr < 524288)
+        (self.video < 16) & (self.xdladr < Vram::ADDRESSES) & (self.bladr < Vram::ADDRESSES)
     }
 
     fn write(mut self, offset: u32, value: u8) -> Ports

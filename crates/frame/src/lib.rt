@@ -18,6 +18,7 @@ use board::Board;
 use record::Reader;
 use refusal::Refusal;
 use settings::Settings;
+use vram::Vram;
 use vram::good_length;
 
 // A frame: the settings of its line, where the list is read on, how many lines more have these settings,
@@ -76,7 +77,7 @@ impl Frame {
         ensures { λ r. ⌜ r ≡ soundFrame self ⌝ }
     {
         let settings = self.settings;
-        settings.sound() & (self.position < 524288) & (self.line <= Frame::LINES)
+        settings.sound() & (self.position < Vram::ADDRESSES) & (self.line <= Frame::LINES)
     }
 
     // One record of the list.

@@ -45,6 +45,9 @@ pub enum Item {
 impl Item {
     // The lines of the screen: an item has no more, nor have all items of a plan together.
     pub const LINES: u8 = 240;
+
+    // The highest address.
+    pub const ADDRESS: u32 = 524287;
 }
 
 // What stands at a place of a plan: an item and where the next begins, or why it is refused.
@@ -122,12 +125,12 @@ fn sound_full(b: Full) -> bool
     (1 <= b.lines)
         & (b.lines <= Item::LINES)
         & (b.mode <= 4)
-        & (b.address <= 524287)
+        & (b.address <= Item::ADDRESS)
         & (b.step <= 4095)
         & (b.hscroll <= 7)
         & (b.vscroll <= 7)
         & (b.map <= 1)
-        & (b.mapaddress <= 524287)
+        & (b.mapaddress <= Item::ADDRESS)
         & (b.mapstep <= 4095)
         & (b.maphscroll <= 31)
         & (b.mapvscroll <= 31)

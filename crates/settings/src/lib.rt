@@ -63,7 +63,7 @@ impl Overlay {
         ensures { λ r. ⌜ r ≡ soundOverlay self ⌝ }
     {
         (self.mode <= 4)
-            & (self.address < 524288)
+            & (self.address < Settings::ADDRESSES)
             & (self.step < 4096)
             & (self.hscroll < 8)
             & (self.vscroll < 8)
@@ -95,7 +95,7 @@ impl Map {
     fn sound(self) -> bool
         ensures { λ r. ⌜ r ≡ soundMap self ⌝ }
     {
-        (self.address < 524288)
+        (self.address < Settings::ADDRESSES)
             & (self.step < 4096)
             & (self.hscroll < 32)
             & (self.vscroll < 32)
@@ -134,6 +134,9 @@ impl Look {
 }
 
 impl Settings {
+    // The addresses of 19 bits.
+    pub const ADDRESSES: u32 = 524288;
+
     // How a frame begins.
     pub fn new() -> Self
         ensures { λ r. ⌜ r ≡ beginning ⌝ }

@@ -7,11 +7,29 @@ ghost use Rattle.vram.specs.Install.{poured, installAnswer, installMemor
 use refusal::Outcome;
 use refusal::Refusal;
 
+// Video memory is a lent slice and has no type of its own: its limits stand here.
+pub struct Vram {}
+
+impl Vram {
+    // The lengths that a memory may have.
+    pub const SHORTEST: usize = 16384;
+
+    pub const LONGEST: usize = 524288;
+
+    // An address has 19 bits: it is below the first, and at most the second.
+    pub const ADDRESSES: u32 = 524288;
+
+    pub const HIGHEST: u32 = 524287;
+
+    // The most bytes that are installed at once.
+    pub const INSTALLED: usize = 5280;
+}
+
 // "a number with exactly one bit set, from 16,384 to 524,288"
 pub fn good_length(len: usize) -> bool
     ensures { λ r. ⌜ r ≡ goodLength len ⌝ }
 {
-    (usize::count_ones(len) == 1) & (16384 <= len) & (len <= 524288)
+    (usize::count_ones(len) == 1) & (Vram::SHORTEST <= len) & (len <= Vram::LONGEST)
 }
 
 // The byte at an address, some bytes further on. The address is reduced first, so that the sum fits;
@@ -66,10 +84,10 @@ pub fn install(mem: &mut [u8], list: &[u8], address: u32) -> Outcome
     if !good_length(mem.len()) {
         return Outcome::Refused(Refusal::Board);
     }
-    if 524287 < address {
+    if Vram::HIGHEST < address {
         return Outcome::Refused(Refusal::Address);
     }
-    if 5280 < list.len() {
+    if Vram::INSTALLED < list.len() {
         return Outcome::Refused(Refusal::Room);
     }
     pour(mem, list, address);
