@@ -59,7 +59,7 @@ destOf mem b n = place (length mem) (destAddress b (rowAt b n) (colAt b n))
 unfoldable pub sourceOf : List ℕ → Block → ℕ → ℕ
 sourceOf mem b n = place (length mem) (sourceAddress b (rowAt b n) (colAt b n))
 
--- memory after the first k bytes, "columns inside rows"
+-- memory after the first k bytes: "Columns run .. inside rows"
 unfoldable pub blockMem : Block → ℕ → List ℕ → List ℕ
 blockMem b k mem = each (λ n. written b (rowAt b n) (colAt b n)) k mem
 

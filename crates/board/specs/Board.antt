@@ -44,7 +44,7 @@ writeBoard b offset v =
     b
     (record { ports = portsWritten offset v (b .ports); blitter = blitterWritten (b .ports .bladr) offset v (b .blitter) })
 
--- "Reads: 0x40 gives 0x10, 0x41 gives 0x24, 0x50 the code, 0x53 the flags, 0x54 IRQF, 0x4A, 0x5E and 0x5F give 0, others 255"
+-- "Reads: 0x40 gives 0x10, 0x41 gives 0x24 .., 0x50 the code, 0x53 the flags, 0x54 IRQF, 0x4A, 0x5E and 0x5F give 0 .., others 255"
 unfoldable pub readByte : Board → ℕ → ℕ
 readByte b offset =
     cond (eqb offset 0x40) 0x10
