@@ -142,11 +142,11 @@ fn trap_rows(mem: &mut [u8]) {
     print::text(b"step y counts from the row's begin: ");
     run(
         mem,
-        b"\0\0\0\0\0\0\x00\x34\0\x10\0\x01\x01\0\x01\0\xAA\0\0\0\0",
+        b"\0\0\0\0\0\0\x00\x30\0\x10\0\x01\x01\0\x01\0\xAA\0\0\0\0",
     );
-    cells(mem, 0x3400);
-    cells(mem, 0x3410);
-    cells(mem, 0x3412);
+    cells(mem, 0x3000);
+    cells(mem, 0x3010);
+    cells(mem, 0x3012);
 }
 
 // A step in x of FF goes backwards: 3500h, then 34FFh.
