@@ -70,6 +70,26 @@ fn steps_and_codes() {
     code(64);
 }
 
+// What a block of 21 bytes FF stands for: W 512, H 256, zoom 8 by 8, mode 7 with NEXT.
+fn full_block() {
+    let mem = [255u8; 16384];
+    let full = block::block_at(&mem, 0);
+    print::text(b"a block of bytes FF: columns ");
+    print::number(full.columns() as u64);
+    print::text(b", rows ");
+    print::number(full.rows() as u64);
+    print::text(b", zoom ");
+    print::number(full.zoom_x() as u64);
+    print::text(b" by ");
+    print::number(full.zoom_y() as u64);
+    print::text(b", Q ");
+    print::number(full.pattern_width() as u64);
+    print::text(b", mode ");
+    print::number(full.mode() as u64);
+    print::text(b", NEXT ");
+    yes_no(full.next());
+}
+
 fn copy_and_fill(mem: &mut [u8]) {
     print::text(b"copy of 4 bytes, mode 0: ");
     run(
@@ -166,6 +186,7 @@ fn traps(mem: &mut [u8]) {
 fn main() {
     let mut mem = [0u8; 16384];
     steps_and_codes();
+    full_block();
     copy_and_fill(&mut mem);
     lengths(&mut mem);
     budgets(&mut mem);

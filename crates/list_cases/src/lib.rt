@@ -105,7 +105,12 @@ fn wraps() {
     small(b"Over 524,288: ", list, 524286, 524286);
     small(b"Between the control bytes: ", list, 524287, 524287);
     small(b"The list position at the wrap: ", list, 524280, 524280);
-    large(b"Over 524,288 in the largest memory: ", list, 524286, 524286);
+    large(
+        b"Over 524,288 in the largest memory: ",
+        list,
+        524286,
+        524286,
+    );
     small(b"Over L: ", list, 16380, 16380);
     large(b"No wrap at 16,384: ", list, 16380, 16380);
     small(b"XDL_ADR above L: ", list, 4096, 20480);
@@ -131,6 +136,7 @@ fn whole() {
 fn modes() {
     some(b"TMON with HR and LR is text: ", b"\x01\x30", 2);
     some(b"GMON with HR and LR is off: ", b"\x02\x30", 2);
+    some(b"Off by HR and LR after SR: ", b"\x02\x00\x02\x30", 2);
     some(b"HR and LR alone do nothing: ", b"\x02\x00\x00\x30", 3);
     case(b"HR, LR, SR: ", b"\x02\x10\x02\x20\x02\x80");
     case(
