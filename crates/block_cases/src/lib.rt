@@ -32,6 +32,12 @@ fn masks(mem: &mut [u8]) {
     hits(b"mode 6, mask 0", mem, 0x17, 33, 1, 0, 6);
 }
 
+// No collision where s is 0, nor in mode 0.
+fn no_code(mem: &mut [u8]) {
+    hits(b"mode 4, s 0, d 33", mem, 0x17, 33, 0, 255, 4);
+    hits(b"mode 0, d 33", mem, 0x17, 33, 1, 255, 0);
+}
+
 // The code is the destination before the write.
 fn before(mem: &mut [u8]) {
     hits(b"200 + 100", mem, 0x17, 200, 100, 0x40, 2);
@@ -46,7 +52,10 @@ fn nibbles(mem: &mut [u8]) {
     two.width0 = 1;
     two.hitmask = 0x30;
     two.control = 6;
-    blitlist::single(b"nibbles 90 0A", mem, two, 0x1800);
+    blitlist::lay(mem, 0, two);
+    let first = blitlist::ran(b"nibbles 55 on 90", blitlist::started(0, 0, 0), mem, 2);
+    blitlist::ran(b"nibbles 55 on 0A", first, mem, 1);
+    show::cells(mem, 0x1800);
 }
 
 fn other_nibble(mem: &mut [u8]) {
@@ -83,21 +92,21 @@ fn mode_7(mem: &mut [u8]) {
     none.control = 7;
     blitlist::lay(mem, 0, none);
     let board = blitlist::started(0, 0, 0);
-    blitlist::ran(b"mode 7", board.write(0x54, 1).board, mem, 100);
+    blitlist::ran(b"mode 7, zoomed", board.write(0x54, 1).board, mem, 100);
 }
 
 // A zoomed copy of two rows of two bytes.
 fn zoomed(name: &[u8], mem: &mut [u8], zoom: u8) {
     let mut block = blitlist::plain(0x20, 0x1A);
     block.source.y0 = 2;
-    block.dest.y0 = 8;
+    block.dest.y0 = 16;
     block.width0 = 1;
     block.height = 1;
     block.zoom = zoom;
     blitlist::single(name, mem, block, 0x1A00);
-    show::cells(mem, 0x1A08);
     show::cells(mem, 0x1A10);
-    show::cells(mem, 0x1A18);
+    show::cells(mem, 0x1A20);
+    show::cells(mem, 0x1A30);
 }
 
 // A row from a pattern.
@@ -117,29 +126,31 @@ fn patterns(mem: &mut [u8]) {
 
 // The source is read anew for each destination byte.
 fn anew(mem: &mut [u8]) {
-    vram::install(mem, b"\x01\x00\x00\x00", 0x2100);
-    let mut same = blitlist::plain(0x21, 0x21);
+    vram::install(mem, b"\x01\x00\x00\x00", 0x2000);
+    let mut same = blitlist::plain(0x20, 0x20);
     same.zoom = 1;
     same.xormask = 1;
-    blitlist::single(b"onto its own source", mem, same, 0x2100);
+    blitlist::single(b"onto its own source", mem, same, 0x2000);
 }
 
 // A copy over itself goes byte by byte.
 fn over_itself(mem: &mut [u8]) {
-    vram::install(mem, b"\x07\x00\x00\x00", 0x2100);
-    let mut over = blitlist::plain(0x21, 0x21);
+    vram::install(mem, b"\x07\x00\x00\x00", 0x2000);
+    let mut over = blitlist::plain(0x20, 0x20);
     over.dest.adr0 = 1;
     over.width0 = 3;
-    blitlist::single(b"over itself", mem, over, 0x2100);
+    blitlist::single(b"over itself", mem, over, 0x2000);
 }
 
-// Two rows with a step in y.
+// Two rows with a step in y. The list is at 100, since a row may be at 0.
 fn stepped(name: &[u8], mem: &mut [u8], d: u8, y0: u8, y1: u8, at: u32) {
     let mut rows = blitlist::fill(d, 1);
     rows.dest.y0 = y0;
     rows.dest.y1 = y1;
     rows.height = 1;
-    blitlist::single(name, mem, rows, at);
+    blitlist::lay(mem, 100, rows);
+    blitlist::ran(name, blitlist::started(100, 0, 0), mem, 9);
+    show::cells(mem, at);
 }
 
 fn steps(mem: &mut [u8]) {
@@ -154,6 +165,7 @@ fn struck(mem: &mut [u8]) {
     modes(mem, 0x50);
     modes(mem, 0);
     masks(mem);
+    no_code(mem);
     before(mem);
     nibbles(mem);
     other_nibble(mem);

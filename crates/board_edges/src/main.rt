@@ -37,11 +37,27 @@ fn budgets(mem: &mut [u8]) {
     list(b"started, 1000001", mem, 1000001);
 }
 
-// A million ticks of the largest block, of 8,388,608 bytes.
-fn largest(mem: &mut [u8]) {
-    let all = [255u8; 21];
-    vram::install(mem, &all, 0);
-    list(b"largest block, 1000000", mem, 1000000);
+// The list at 0 in nine runs of a million ticks.
+fn nine(name: &[u8], mem: &mut [u8]) {
+    let mut board = blitlist::started(0, 0, 0);
+    for run in 1..10u8 {
+        show::field(name, run as u64);
+        board = blitlist::ran(b"", board, mem, 1000000);
+    }
+}
+
+// The largest block has 8,388,608 bytes: with NEXT, as memory full of FF has it, and without.
+fn largest() {
+    let mut mem = [255u8; 16384];
+    nine(b"memory full of FF, run ", &mut mem);
+    let mut block = blitlist::plain(0, 0);
+    block.width0 = 255;
+    block.width1 = 1;
+    block.height = 255;
+    block.zoom = 0x77;
+    block.control = 7;
+    blitlist::lay(&mut mem, 0, block);
+    nine(b"largest block, run ", &mut mem);
 }
 
 // The order of a run's refusals.
@@ -72,10 +88,10 @@ fn own_control(mem: &mut [u8]) {
 }
 
 // A list over the top of memory: one block, its load, then its byte.
-fn wraps(name: &[u8], mem: &mut [u8], at: u32, board: Board, value: u8) {
+fn wraps(name: &[u8], byte: &[u8], mem: &mut [u8], at: u32, board: Board, value: u8) {
     blitlist::lay(mem, at, blitlist::fill(0x13, value));
     let loaded = blitlist::ran(name, board, mem, 1);
-    go(b"its byte", loaded, mem, 9);
+    go(byte, loaded, mem, 9);
     show::cells(mem, 0x1300);
 }
 
@@ -136,7 +152,7 @@ fn compared(one: &mut [u8], two: &mut [u8]) {
     in_pieces(two);
     show::cells(two, 0x2000);
     if same(one, two) {
-        print::text(b"same\n");
+        print::text(b"in one and in pieces: the same memory\n");
     }
 }
 
@@ -144,9 +160,10 @@ fn compared(one: &mut [u8], two: &mut [u8]) {
 fn runs(mem: &mut [u8]) {
     copies(mem);
     list(b"budget 0", mem, 0);
+    list(b"budget 5", mem, 5);
     ends(mem);
     budgets(mem);
-    largest(mem);
+    largest();
     refusals(mem);
     later_block(mem);
     own_control(mem);
@@ -155,9 +172,23 @@ fn runs(mem: &mut [u8]) {
 // Lists over the top of memory.
 fn tops(mem: &mut [u8]) {
     let high = blitlist::started(0xF8, 0xFF, 7);
-    wraps(b"list at 524280", mem, 524280, high, 0x11);
+    wraps(
+        b"list at 524280",
+        b"list at 524280, its byte",
+        mem,
+        524280,
+        high,
+        0x11,
+    );
     let low = blitlist::started(0xF8, 0x3F, 0);
-    wraps(b"list at 16376", mem, 16376, low, 0x22);
+    wraps(
+        b"list at 16376",
+        b"list at 16376, its byte",
+        mem,
+        16376,
+        low,
+        0x22,
+    );
 }
 
 fn main() {

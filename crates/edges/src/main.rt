@@ -1,5 +1,5 @@
-// The cases of document 01, "At the edges", that are not starred, and one case for each of its traps, where a program that
-// fell into it would print something else.
+// The cases of document 01, "At the edges", that are not starred; one case for each of its traps, where a program that fell
+// into it would print something else; a block of bytes FF; and plans.
 use board::Board;
 use engine::RunReport;
 
@@ -68,6 +68,26 @@ fn steps_and_codes() {
     yes_no(step::step_y(0xFF, 0x3F) == -1);
     code(63);
     code(64);
+}
+
+// What a block of 21 bytes FF stands for: W 512, H 256, zoom 8 by 8, mode 7 with NEXT.
+fn full_block() {
+    let mem = [255u8; 16384];
+    let full = block::block_at(&mem, 0);
+    print::text(b"a block of bytes FF: columns ");
+    print::number(full.columns() as u64);
+    print::text(b", rows ");
+    print::number(full.rows() as u64);
+    print::text(b", zoom ");
+    print::number(full.zoom_x() as u64);
+    print::text(b" by ");
+    print::number(full.zoom_y() as u64);
+    print::text(b", Q ");
+    print::number(full.pattern_width() as u64);
+    print::text(b", mode ");
+    print::number(full.mode() as u64);
+    print::text(b", NEXT ");
+    yes_no(full.next());
 }
 
 fn copy_and_fill(mem: &mut [u8]) {
@@ -142,11 +162,11 @@ fn trap_rows(mem: &mut [u8]) {
     print::text(b"step y counts from the row's begin: ");
     run(
         mem,
-        b"\0\0\0\0\0\0\x00\x34\0\x10\0\x01\x01\0\x01\0\xAA\0\0\0\0",
+        b"\0\0\0\0\0\0\x00\x30\0\x10\0\x01\x01\0\x01\0\xAA\0\0\0\0",
     );
-    cells(mem, 0x3400);
-    cells(mem, 0x3410);
-    cells(mem, 0x3412);
+    cells(mem, 0x3000);
+    cells(mem, 0x3010);
+    cells(mem, 0x3012);
 }
 
 // A step in x of FF goes backwards: 3500h, then 34FFh.
@@ -166,6 +186,7 @@ fn traps(mem: &mut [u8]) {
 fn main() {
     let mut mem = [0u8; 16384];
     steps_and_codes();
+    full_block();
     copy_and_fill(&mut mem);
     lengths(&mut mem);
     budgets(&mut mem);

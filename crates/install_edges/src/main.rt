@@ -26,11 +26,12 @@ fn cell(mem: &[u8], address: u32) {
     print::text(b"\n");
 }
 
-// Three bytes over the top of memory, and the two places beside them.
+// Three bytes over the top of memory, and the two places beside them. In the smallest memory 524287 is cell 16383.
 fn over_the_top(mem: &mut [u8]) {
     told(mem, b"\x11\x22\x33", 524287);
     cell(mem, 524286);
     cell(mem, 524287);
+    cell(mem, 16383);
     cell(mem, 0);
     cell(mem, 1);
     cell(mem, 2);
@@ -65,6 +66,12 @@ fn lengths(mem: &mut [u8]) {
     into_first(mem, 524287);
 }
 
+// One bit set, and above the range.
+fn too_long() {
+    let mut mem = [0u8; 1048576];
+    told(&mut mem, b"\x07", 0);
+}
+
 // The order of the refusals: all three hold of a short memory, and 1 is told.
 fn order(mem: &mut [u8], list: &[u8]) {
     if 100 <= mem.len() {
@@ -81,5 +88,6 @@ fn main() {
     over_the_top(&mut large);
     edges(&mut large, &list);
     lengths(&mut large);
+    too_long();
     order(&mut large, &list);
 }

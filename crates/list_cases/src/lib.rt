@@ -60,9 +60,9 @@ fn some(title: &[u8], list: &[u8], count: u16) {
 }
 
 // The worked list with another VIDEO_CONTROL.
-fn switched(video: u8) {
+fn switched(title: &[u8], video: u8) {
     let mut mem = [0u8; 16384];
-    print::text(b"Switched on by bit 0 alone: ");
+    print::text(title);
     shown(
         &mut mem,
         b"\x62\x80\x02\x00\x10\x00\x40\x01",
@@ -86,7 +86,7 @@ fn worked() {
         b"A map over the top: ",
         b"\x28\x86\x02\xFF\xFF\x07\x01\x00\x00\x00\x07\x00",
     );
-    some(b"TMON and GMON: ", b"\x03\x00", 2);
+    some(b"TMON and GMON: ", b"\x02\x00\x03\x00", 2);
     some(b"No END, 240 records: ", b"\x00\x00", 241);
     some(
         b"No END, the mode runs on: ",
@@ -94,9 +94,9 @@ fn worked() {
         4,
     );
     small(b"No END, over the top: ", b"\x00\x00", 524280, 524280);
-    switched(0);
-    switched(14);
-    switched(15);
+    switched(b"Not switched on: ", 0);
+    switched(b"Not switched on by bits 1 to 3: ", 14);
+    switched(b"Switched on with bits 1 to 3: ", 15);
 }
 
 // Lists over the top of memory: addresses wrap at 524,288, cells at L.
@@ -105,7 +105,12 @@ fn wraps() {
     small(b"Over 524,288: ", list, 524286, 524286);
     small(b"Between the control bytes: ", list, 524287, 524287);
     small(b"The list position at the wrap: ", list, 524280, 524280);
-    large(b"Over 524,288: ", list, 524286, 524286);
+    large(
+        b"Over 524,288 in the largest memory: ",
+        list,
+        524286,
+        524286,
+    );
     small(b"Over L: ", list, 16380, 16380);
     large(b"No wrap at 16,384: ", list, 16380, 16380);
     small(b"XDL_ADR above L: ", list, 4096, 20480);
@@ -131,6 +136,7 @@ fn whole() {
 fn modes() {
     some(b"TMON with HR and LR is text: ", b"\x01\x30", 2);
     some(b"GMON with HR and LR is off: ", b"\x02\x30", 2);
+    some(b"Off by HR and LR after SR: ", b"\x02\x00\x02\x30", 2);
     some(b"HR and LR alone do nothing: ", b"\x02\x00\x00\x30", 3);
     case(b"HR, LR, SR: ", b"\x02\x10\x02\x20\x02\x80");
     case(

@@ -1,81 +1,54 @@
-// Plans, compiled: what one shows as a frame, and what one needs of room.
-use board::Board;
-use frame::Frame;
-use frame::FrameStart;
-use frame::LineReport;
+// Plans, compiled: what one shows as a frame, and what one needs of room. F() is a full band of one line that is off, its fields
+// 8 by 8; R() is a running-on item of one line.
 use plan::Compiled;
-use settings::Settings;
 
-fn line(s: Settings) {
-    let overlay = s.overlay;
-    print::text(b" ");
-    print::number(overlay.address as u64);
-    print::text(b":");
-    print::number(overlay.counter as u64);
-}
-
-// The frame's next line, and the frame after it.
-fn next(frame: Frame, mem: &[u8]) -> Frame {
-    let given = frame.next_line(mem);
-    let report = given.report;
-    match report {
-        LineReport::Line(s) => line(s),
-        LineReport::Refused(why) => print::refused(why, 0),
-    }
-    given.frame
-}
-
-// The overlay address and the text counter of ten lines.
-fn lines(frame: Frame, mem: &[u8]) {
-    let mut frame = frame;
-    let mut left: u8 = 10;
-    while 0 < left {
-        frame = next(frame, mem);
-        left -= 1;
-    }
-    print::text(b"\n");
-}
-
-// Switches the list at 0 on, and starts a frame.
-fn show(mem: &[u8]) {
-    let board = Board::new();
-    let changed = board.write(0x40, 1);
-    let on = changed.board;
-    let start = Frame::start(on);
-    match start {
-        FrameStart::Started(frame) => lines(frame, mem),
-        FrameStart::Refused(why) => print::refused(why, 0),
-    }
-}
-
-// Text at 0, step 160: three lines, then six that run on. The row goes on, and steps after its eighth line.
-fn trap_text() {
+// A plan whose list has 30 bytes, and the lines of its frame.
+fn shown(title: &[u8], plan: &[u8]) {
     let mut mem = [0u8; 16384];
-    let plan =
-        b"\x17\0\x01\0\x03\x01\0\0\0\xA0\0\0\0\0\0\0\0\0\0\0\0\0\x08\x08\x01\x01\xFF\x07\0\x02\0\x06\0\0\0\x01\x01\xFF";
     let mut list = [0u8; 30];
     plan::compile(plan, &mut list);
     vram::install(&mut mem, &list, 0);
-    print::text(b"text steps every eight lines, and runs on:");
-    show(&mem);
+    print::text(title);
+    linetext::show(&mem, 0, 1, 240);
 }
 
-// The paper's one-item plan into a lent buffer: what is told, and the buffer's first and last byte.
-fn into(out: &mut [u8]) {
-    let plan = b"\x17\0\x01\0\x01\0\0\0\0\0\0\0\0\0\0\0\0\0\0\0\0\0\x08\x01\x01\x01\xFF";
-    print::text(b"a list of 22 bytes into ");
-    compiled(plan, out);
+// Text at 0, step 160: three lines, then six that run on. The row goes on, and steps after its eighth line; so it does where the
+// vscroll changes.
+fn rows() {
+    shown(
+        b"text steps every eight lines, and runs on\n",
+        b"\x17\0\x01\0\x03\x01\0\0\0\xA0\0\0\0\0\0\0\0\0\0\0\0\0\x08\x08\x01\x01\xFF\x07\0\x02\0\x06\0\0\0\x01\x01\xFF",
+    );
+    shown(
+        b"a vscroll moves no counter\n",
+        b"\x17\0\x01\0\x03\x01\0\0\0\xA0\0\0\0\0\0\0\0\0\0\0\0\0\x08\x08\x01\x01\xFF\x07\0\x02\0\x06\0\x05\0\x01\x01\xFF",
+    );
 }
 
-// The same with a stray byte behind it: an item's refusal comes before the room's.
-fn stray(out: &mut [u8]) {
-    let plan = b"\x17\0\x01\0\x01\0\0\0\0\0\0\0\0\0\0\0\0\0\0\0\0\0\x08\x01\x01\x01\xFF\0";
-    print::text(b"the same and a stray byte into ");
-    compiled(plan, out);
+// SR at 1000h, step 140h: three lines, then two with hscroll 5 and palettes 6. Below them what is left is held.
+fn below() {
+    shown(
+        b"below the plan\n",
+        b"\x17\0\x01\0\x03\x02\0\x10\0\x40\x01\0\0\0\0\0\0\0\0\0\0\0\x08\x08\x01\x01\xFF\x07\0\x02\0\x02\x05\0\0\x01\x06\xFF",
+    );
 }
 
-fn compiled(plan: &[u8], out: &mut [u8]) {
+fn byte(b: u8) {
+    print::text(b" ");
+    print::hex(b);
+}
+
+fn bytes(out: &[u8]) {
+    for i in 0..out.len() {
+        byte(out[i]);
+    }
+}
+
+// A plan into a lent buffer: what is told, and all that the buffer holds.
+fn compiled(title: &[u8], plan: &[u8], out: &mut [u8]) {
     let told = plan::compile(plan, out);
+    print::text(title);
+    print::text(b" into ");
     print::number(out.len() as u64);
     print::text(b": ");
     match told {
@@ -85,33 +58,69 @@ fn compiled(plan: &[u8], out: &mut [u8]) {
         }
         Compiled::Refused(why, item) => print::refused(why, item),
     }
-    ends(out);
+    print::text(b" ");
+    bytes(out);
+    print::text(b"\n");
 }
 
-fn ends(out: &[u8]) {
-    let n = out.len();
-    if 0 < n {
-        print::text(b"  first ");
-        print::hex(out[0]);
-        print::text(b", last ");
-        print::hex(out[n - 1]);
-        print::text(b"\n");
-    }
+// A plan of one item, whose list has 22 bytes.
+fn one(out: &mut [u8]) {
+    compiled(
+        b"F()",
+        b"\x17\0\x01\0\x01\0\0\0\0\0\0\0\0\0\0\0\0\0\0\0\0\0\x08\x08\x01\x01\xFF",
+        out,
+    );
 }
 
-fn rooms() {
+// Buffers of EE around 22 bytes. With a stray byte behind the plan, an item's refusal comes before the room's.
+fn rooms_of_one() {
     let mut short = [0xEEu8; 21];
-    into(&mut short);
+    one(&mut short);
     let mut exact = [0xEEu8; 22];
-    into(&mut exact);
+    one(&mut exact);
     let mut long = [0xEEu8; 25];
-    into(&mut long);
-    let mut less = [0xEEu8; 21];
-    stray(&mut less);
+    one(&mut long);
+    let mut stray = [0xEEu8; 21];
+    compiled(
+        b"F()+00",
+        b"\x17\0\x01\0\x01\0\0\0\0\0\0\0\0\0\0\0\0\0\0\0\0\0\x08\x08\x01\x01\xFF\0",
+        &mut stray,
+    );
+}
+
+// A plan of two items, whose list has 30 bytes.
+fn two(out: &mut [u8]) {
+    compiled(
+        b"F()+R()",
+        b"\x17\0\x01\0\x01\0\0\0\0\0\0\0\0\0\0\0\0\0\0\0\0\0\x08\x08\x01\x01\xFF\x07\0\x02\0\x01\0\0\0\x01\x01\xFF",
+        out,
+    );
+}
+
+// Buffers of EE around 30 bytes; a fault in the last item, with room for the first; and a stray byte.
+fn rooms_of_two() {
+    let mut short = [0xEEu8; 29];
+    two(&mut short);
+    let mut exact = [0xEEu8; 30];
+    two(&mut exact);
+    let mut first = [0xEEu8; 22];
+    compiled(
+        b"F()+R(hs 8)",
+        b"\x17\0\x01\0\x01\0\0\0\0\0\0\0\0\0\0\0\0\0\0\0\0\0\x08\x08\x01\x01\xFF\x07\0\x02\0\x01\x08\0\0\x01\x01\xFF",
+        &mut first,
+    );
+    let mut stray = [0xEEu8; 29];
+    compiled(
+        b"F()+R()+00",
+        b"\x17\0\x01\0\x01\0\0\0\0\0\0\0\0\0\0\0\0\0\0\0\0\0\x08\x08\x01\x01\xFF\x07\0\x02\0\x01\0\0\0\x01\x01\xFF\0",
+        &mut stray,
+    );
 }
 
 // All of them, each in memory of its own.
 pub fn all() {
-    trap_text();
-    rooms();
+    rows();
+    below();
+    rooms_of_one();
+    rooms_of_two();
 }

@@ -2,11 +2,11 @@
 use board::Board;
 
 // A board in the middle of a fill of 4 bytes, with IRQF and a code that other work left.
-fn middle(mem: &mut [u8]) -> Board {
+fn middle(name: &[u8], mem: &mut [u8]) -> Board {
     let mut four = blitlist::fill(0x14, 0x5A);
     four.width0 = 3;
     blitlist::lay(mem, 64, four);
-    let mut busy = blitlist::ran(b"busy", blitlist::started(64, 0, 0), mem, 3);
+    let mut busy = blitlist::ran(name, blitlist::started(64, 0, 0), mem, 3);
     busy.blitter.irqf = true;
     busy.blitter.code = 5;
     busy
@@ -28,23 +28,43 @@ fn stopped(busy: Board) -> Board {
 }
 
 fn starts(mem: &mut [u8]) {
-    let busy = middle(mem);
+    let busy = middle(b"busy before START", mem);
     blitlist::ran(b"run after stop", stopped(busy), mem, 9);
     show::cells(mem, 0x1400);
 }
 
 // Stop raises no interrupt, and leaves an idle board as it is.
 fn stops(mem: &mut [u8]) {
-    let mut busy = middle(mem);
+    let mut busy = middle(b"busy before stop", mem);
     busy.blitter.irqe = true;
     busy.blitter.irqf = false;
     let idle = writes(b"stop with IRQE", busy, 0x53, 0);
     writes(b"stop when idle", idle, 0x53, 0);
 }
 
-// BL_ADR written while running changes BL_ADR alone.
+// The list address stays at the end of a list and at a reset.
+fn ends(mem: &mut [u8]) {
+    let busy = middle(b"busy before reset", mem);
+    blitlist::ran(b"run to its end", busy, mem, 9);
+    print::text(b"reset in the middle");
+    show::state(busy.reset().board);
+}
+
+// BL_ADR written while running changes BL_ADR alone: before the load,
+fn early() {
+    let moved = writes(
+        b"BL_ADR 128 before the load",
+        blitlist::started(0, 0, 0),
+        0x50,
+        0x80,
+    );
+    print::text(b"  ports");
+    show::ports(moved);
+}
+
+// and while a block is being done.
 fn moves(mem: &mut [u8]) {
-    let busy = middle(mem);
+    let busy = middle(b"busy before BL_ADR 128", mem);
     let moved = writes(b"BL_ADR 128 while running", busy, 0x50, 128);
     blitlist::ran(b"run on", moved, mem, 9);
     writes(b"START from there", moved, 0x53, 1);
@@ -92,6 +112,8 @@ pub fn all() {
     let mut mem = [0u8; 16384];
     starts(&mut mem);
     stops(&mut mem);
+    ends(&mut mem);
+    early();
     moves(&mut mem);
     raised(&mut mem);
     quiet(&mut mem);
