@@ -66,8 +66,8 @@ fn early() {
 fn moves(mem: &mut [u8]) {
     let busy = middle(b"busy before BL_ADR 128", mem);
     let moved = writes(b"BL_ADR 128 while running", busy, 0x50, 128);
-    blitlist::ran(b"run on", moved, mem, 9);
-    writes(b"START from there", moved, 0x53, 1);
+    let end = blitlist::ran(b"run on", moved, mem, 9);
+    writes(b"START from there", end, 0x53, 1);
 }
 
 // Two blocks of one byte, one after the other.
