@@ -16,6 +16,7 @@ use words::word;
 
 // The words of a line's settings, and of a frame.
 pub const SETTINGS_WORDS: usize = 19;
+
 pub const FRAME_WORDS: usize = 24;
 
 fn overlay_of(words: &[u32]) -> Overlay

@@ -3,7 +3,7 @@ use mathlib.Core.Path.{refl, sym, ap, _∙_}
 use borrow.Author.Tests.{lt-leb, le-leb, not-true, not-false}
 use Rattle.frame.specs.Frame.{startTold}
 use Rattle.capi.specs.Calls.{startCall}
-use Rattle.capi.proofs.Told.{no-number, no-report, done-number, done-report}
+use Rattle.capi.proofs.Told.{alone, no-number, no-report, done-number, done-report}
 use Rattle.capi.proofs.Passed.{start-passed}
 use borrow.Author.Needs.{needs}
 use Rattle.capi.proofs.deskboard_start.Statement.{statement}
@@ -18,45 +18,51 @@ unfolding startCall
 returns-2 c = simp (le-leb _ _ (c .before .if1 .left), lt-leb _ _ (c .if2 .taken)) (refl, refl)
 
 board-fits-requires : tie.Need-board-fits-requires
-board-fits-requires c κs = tt
+board-fits-requires c κs = search needs
 
 returns-3 : tie.Need-returns-3
 unfolding startCall
 returns-3 c = simp (le-leb _ _ (c .before .before .before .if1 .left), le-leb _ _ (c .before .before .if2 .left), sym (c .before .board-fits .ensures) ∙ not-true _ (c .if3 .taken)) (refl, refl)
 
 board-of-requires : tie.Need-board-of-requires
-board-of-requires c κs = tt
+board-of-requires c κs = search needs
 
 start-requires : tie.Need-start-requires
-start-requires c κs = tt
+start-requires c κs = search needs
 
 enum-known-told : tie.Need-enum-known-told
 enum-known-told c = search needs
 
 put-frame-requires : tie.Need-put-frame-requires
-put-frame-requires c κs = tt
+put-frame-requires c κs = search needs
 
 enum-known-told-2 : tie.Need-enum-known-told-2
 enum-known-told-2 c = search needs
 
 number-requires : tie.Need-number-requires
-number-requires c κs = tt
+number-requires c κs = search needs
 
 cast-result : tie.Need-cast-result
 cast-result c = search needs
 
 same-length : tie.Need-same-length
-same-length c = c .before .frame .given
+same-length c = search needs
 
 returns-4 : tie.Need-returns-4
 returns-4 c =
-    let e = start-passed _ _ (c .before .before .before .before .before .before .before .before .before .before .before .before .if1 .left) (sym (c .before .before .before .before .before .before .before .before .before .before .board-fits .ensures) ∙ not-false _ (c .before .before .before .before .before .before .before .before .before .if3 .left)) (c .before .before .before .before .before .before .before .before .board-of .ensures) _ (c .before .before .before .before .before .before .before .before .before .before .before .if2 .left) _ (c .before .before .before .before .before .before .before .start .ensures) ∙ ap startTold (c .before .before .before .before .before .told .given .1) in
+    let b = c .before .before .before .before .before .before .before .before in
+    let t = c .before .before .before .before .before in
+    let fits = sym (b .before .before .board-fits .ensures) ∙ not-false _ (b .before .if3 .left) in
+    let e = start-passed _ _ (b .before .before .before .before .if1 .left) fits (b .board-of .ensures) _ (b .before .before .before .if2 .left) _ (sym (ap startTold (t .told .given .1)) ∙ t .before .before .start .ensures) in
     (done-number _ _ e, done-report _ _ e _ _ _ (c .before .before .put-frame .ensures))
 
 returns-5 : tie.Need-returns-5
 returns-5 c =
-    let e = start-passed _ _ (c .before .before .before .before .before .before .before .before .before .if1 .left) (sym (c .before .before .before .before .before .before .before .board-fits .ensures) ∙ not-false _ (c .before .before .before .before .before .before .if3 .left)) (c .before .before .before .before .before .board-of .ensures) _ (c .before .before .before .before .before .before .before .before .if2 .left) _ (c .before .before .before .before .start .ensures) ∙ ap startTold (c .before .before .told2 .given .1) in
-    (c .number .ensures ∙ no-number _ _ _ e, no-report _ _ _ e _ _)
+    let b = c .before .before .before .before .before in
+    let t = c .before .before in
+    let fits = sym (b .before .before .board-fits .ensures) ∙ not-false _ (b .before .if3 .left) in
+    let e = start-passed _ _ (b .before .before .before .before .if1 .left) fits (b .board-of .ensures) _ (b .before .before .before .if2 .left) _ (sym (ap startTold (t .told2 .given .1)) ∙ t .before .before .start .ensures) in
+    (no-number _ _ _ e _ (c .number .ensures ∙ alone _), no-report _ _ _ e _ _)
 
 pub deskboard-start-spec : {M : Type 1} → statement M
 deskboard-start-spec =
