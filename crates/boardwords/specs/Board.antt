@@ -96,7 +96,7 @@ positionWords b = b .blitter .row ∷ b .blitter .col ∷ []
 unfoldable pub boardWords : Board → List ℕ
 boardWords b = (registerWords b ++ blockWords (b .blitter .block)) ++ positionWords b
 
--- "out of its field's type (a byte above 255, a switch that is neither 0 nor 1, a row or column above 65,535)": the largest word of each field
+-- "out of its field's type (a byte above 255, a switch that is neither 0 nor 1, a 16-bit field above 65,535)": the largest word of each field
 abbrev pub registerMost : List ℕ
 registerMost =
     aByte ∷ aWord ∷ aWord ∷ aByte ∷ aByte ∷ aByte ∷ aByte
