@@ -12,7 +12,7 @@ slice-aggregate-compile : tie.Need-slice-aggregate-compile
 slice-aggregate-compile c = search needs
 
 compile-requires : tie.Need-compile-requires
-compile-requires c κs = search needs
+compile-requires c κs = tt
 
 enum-told : tie.Need-enum-told
 enum-told c = search needs

@@ -11,7 +11,7 @@ use Rattle.capi.proofs.deskboard_next_line.Statement.{statement}
 use Rattle.capi.proofs.deskboard_next_line.Tie as tie
 
 good-length-requires : tie.Need-good-length-requires
-good-length-requires c κs = search needs
+good-length-requires c κs = tt
 
 returns : tie.Need-returns
 unfolding lineCall
@@ -22,7 +22,7 @@ unfolding lineCall
 returns-2 c = simp (sym (c .before .before .good-length .ensures) ∙ not-false _ (c .before .if1 .left), lt-leb _ _ (c .if2 .taken)) (refl, (refl, refl))
 
 frame-fits-requires : tie.Need-frame-fits-requires
-frame-fits-requires c κs = search needs
+frame-fits-requires c κs = tt
 
 same-length : tie.Need-same-length
 same-length c = search needs
@@ -32,10 +32,10 @@ unfolding lineCall
 returns-3 c = simp (sym (c .before .before .before .before .before .good-length .ensures) ∙ not-false _ (c .before .before .before .before .if1 .left), le-leb _ _ (c .before .before .before .if2 .left), sym (c .before .frame-fits .ensures) ∙ not-true _ (c .if3 .taken)) (refl, (refl, refl))
 
 frame-of-requires : tie.Need-frame-of-requires
-frame-of-requires c κs = search needs
+frame-of-requires c κs = tt
 
 next-line-requires : tie.Need-next-line-requires
-next-line-requires c κs = search needs
+next-line-requires c κs = tt
 
 enum-known-told : tie.Need-enum-known-told
 enum-known-told c = search needs
@@ -54,16 +54,16 @@ returns-4 c =
     (no-number _ _ _ e _ refl, (no-change _ _ _ e _ _, no-report _ _ _ e _ _))
 
 put-frame-requires : tie.Need-put-frame-requires
-put-frame-requires c κs = search needs
+put-frame-requires c κs = tt
 
 put-settings-requires : tie.Need-put-settings-requires
-put-settings-requires c κs = search needs
+put-settings-requires c κs = tt
 
 enum-known-told-2 : tie.Need-enum-known-told-2
 enum-known-told-2 c = search needs
 
 number-requires : tie.Need-number-requires
-number-requires c κs = search needs
+number-requires c κs = tt
 
 cast-result : tie.Need-cast-result
 cast-result c = search needs

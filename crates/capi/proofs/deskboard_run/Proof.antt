@@ -8,7 +8,7 @@ use Rattle.capi.proofs.deskboard_run.Statement.{statement}
 use Rattle.capi.proofs.deskboard_run.Tie as tie
 
 good-length-requires : tie.Need-good-length-requires
-good-length-requires c κs = search needs
+good-length-requires c κs = tt
 
 returns : tie.Need-returns
 unfolding runCall
@@ -19,7 +19,7 @@ unfolding runCall
 returns-2 c = simp (sym (c .before .before .good-length .ensures) ∙ not-false _ (c .before .if1 .left), lt-leb _ _ (c .if2 .taken)) (refl, (refl, (refl, refl)))
 
 board-fits-requires : tie.Need-board-fits-requires
-board-fits-requires c κs = search needs
+board-fits-requires c κs = tt
 
 same-length : tie.Need-same-length
 same-length c = search needs
@@ -29,10 +29,10 @@ unfolding runCall
 returns-3 c = simp (sym (c .before .before .before .before .before .good-length .ensures) ∙ not-false _ (c .before .before .before .before .if1 .left), le-leb _ _ (c .before .before .before .if2 .left), sym (c .before .board-fits .ensures) ∙ not-true _ (c .if3 .taken)) (refl, (refl, (refl, refl)))
 
 board-of-requires : tie.Need-board-of-requires
-board-of-requires c κs = search needs
+board-of-requires c κs = tt
 
 run-unreported-requires : tie.Need-run-unreported-requires
-run-unreported-requires c κs = search needs
+run-unreported-requires c κs = tt
 
 same-length-2 : tie.Need-same-length-2
 same-length-2 c = search needs
@@ -45,10 +45,10 @@ returns-4 c =
     run-short _ _ (b .before .before .before .before .before .if2 .left) fits (b .board-of .ensures) _ _ _ good (c .before .if4 .taken) _ (c .run-unreported .ensures)
 
 run-requires : tie.Need-run-requires
-run-requires c κs = search needs
+run-requires c κs = tt
 
 settle-run-requires : tie.Need-settle-run-requires
-settle-run-requires c κs = search needs
+settle-run-requires c κs = tt
 
 same-length-3 : tie.Need-same-length-3
 same-length-3 c = search needs

@@ -18,29 +18,29 @@ unfolding startCall
 returns-2 c = simp (le-leb _ _ (c .before .if1 .left), lt-leb _ _ (c .if2 .taken)) (refl, refl)
 
 board-fits-requires : tie.Need-board-fits-requires
-board-fits-requires c κs = search needs
+board-fits-requires c κs = tt
 
 returns-3 : tie.Need-returns-3
 unfolding startCall
 returns-3 c = simp (le-leb _ _ (c .before .before .before .if1 .left), le-leb _ _ (c .before .before .if2 .left), sym (c .before .board-fits .ensures) ∙ not-true _ (c .if3 .taken)) (refl, refl)
 
 board-of-requires : tie.Need-board-of-requires
-board-of-requires c κs = search needs
+board-of-requires c κs = tt
 
 start-requires : tie.Need-start-requires
-start-requires c κs = search needs
+start-requires c κs = tt
 
 enum-known-told : tie.Need-enum-known-told
 enum-known-told c = search needs
 
 put-frame-requires : tie.Need-put-frame-requires
-put-frame-requires c κs = search needs
+put-frame-requires c κs = tt
 
 enum-known-told-2 : tie.Need-enum-known-told-2
 enum-known-told-2 c = search needs
 
 number-requires : tie.Need-number-requires
-number-requires c κs = search needs
+number-requires c κs = tt
 
 cast-result : tie.Need-cast-result
 cast-result c = search needs

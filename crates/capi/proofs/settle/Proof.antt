@@ -9,13 +9,13 @@ enum-told : tie.Need-enum-told
 enum-told c = search needs
 
 put-board-requires : tie.Need-put-board-requires
-put-board-requires c κs = search needs
+put-board-requires c κs = tt
 
 enum-known-report : tie.Need-enum-known-report
 enum-known-report c = search needs
 
 number-requires : tie.Need-number-requires
-number-requires c κs = search needs
+number-requires c κs = tt
 
 cast-result : tie.Need-cast-result
 cast-result c = search needs
