@@ -1,13 +1,14 @@
 /* The desk board for C and Rust callers: a model of the VBXE card, FX core 1.24.
  *
- * Every call returns 0 where it was done, or the number of its refusal, as on the refusal sheet (docs/HELP.md).
- * A refused call changes nothing that was lent to it: no byte of memory, no word of a state, no word of a report.
- * DESKBOARD_SHORT is no number of the sheet: a lent buffer of words is shorter than this page says. It is tested
- * before everything else.
+ * Every call returns 0 where it was done, else the number of its refusal plus 256 times the item. The numbers are those
+ * of the refusal sheet (docs/HELP.md). Only deskboard_compile has an item other than 0. The number is `answer & 255`,
+ * the item `answer >> 8`. A refused call changes nothing that was lent to it: no byte of memory or output, no word of a
+ * state, no word of a report. Each call below lists its refusals in the order in which they are tested.
  *
- * States are lent as words, one 32-bit word a field, in the order below. Words past the last stay as they are. A word
- * that is out of its field's type (a byte above 255, a switch that is neither 0 nor 1, a 16-bit field above 65,535)
- * makes the state unsound: refusal 15, in its order.
+ * States are lent as words, one 32-bit word a field, in the order below. A longer buffer will do: words past the last
+ * stay as they are. A state's buffer that is shorter than the state is refusal 15, also where it is only written to. A
+ * word that is out of its field's type (a byte above 255, a switch that is neither 0 nor 1, a 16-bit field above 65,535)
+ * makes the state unsound: refusal 15 as well. A report or settings buffer that is too short is refusal 13, tested last.
  *
  * Buffers that are lent to one call must not overlap.
  *
@@ -22,9 +23,6 @@
 #ifdef __cplusplus
 extern "C" {
 #endif
-
-/* A lent buffer of words is too short. */
-#define DESKBOARD_SHORT 255u
 
 /* A board is 35 words:
  *   0 VIDEO_CONTROL   1 XDL_ADR   2 BL_ADR   3..6 P0..P3
@@ -47,28 +45,32 @@ extern "C" {
 /* A frame is 24 words: 0..18 its settings, 19 list position, 20 repeat, 21 line, 22 ended (0, 1), 23 on (0, 1). */
 #define DESKBOARD_FRAME_WORDS 24u
 
-/* A new board. */
+/* A new board: refusal 15. */
 uint32_t deskboard_new(uint32_t *board, size_t board_len);
 
-/* Registers, offsets 0x40 to 0x5F: refusals 15, 3. A value read goes to report[0]. */
+/* Writes a register, offsets 0x40 to 0x5F: refusals 15, 3. */
 uint32_t deskboard_write(uint32_t *board, size_t board_len, uint32_t offset, uint8_t value);
+
+/* Reads one: refusals 15, 3, 13. The value goes to report[0]. */
 uint32_t deskboard_read(const uint32_t *board, size_t board_len, uint32_t offset, uint32_t *report, size_t report_len);
 
 /* RESET: refusal 15. */
 uint32_t deskboard_reset(uint32_t *board, size_t board_len);
 
-/* One tick, refusals 1, 15; a run, refusals 1, 15, 2. report[0] is ticks done, report[1] accesses made. */
+/* One tick: refusals 1, 15, 13. report[0] is ticks done, report[1] accesses made. */
 uint32_t deskboard_tick(uint32_t *board, size_t board_len, uint8_t *mem, size_t mem_len, uint32_t *report, size_t report_len);
+
+/* A run: refusals 1, 15, 2, 13. Its report is that of a tick. */
 uint32_t deskboard_run(uint32_t *board, size_t board_len, uint8_t *mem, size_t mem_len, uint32_t budget, uint32_t *report, size_t report_len);
 
-/* Frame start, refusal 15: makes a frame from a board. */
+/* Frame start: refusal 15. Makes a frame from a board. */
 uint32_t deskboard_start(const uint32_t *board, size_t board_len, uint32_t *frame, size_t frame_len);
 
-/* The next line, refusals 1, 15, 4: the frame goes on, and the line's settings go to settings[0..18]. */
+/* The next line: refusals 1, 15, 4, 13. The frame goes on, and the line's settings go to settings[0..18]. */
 uint32_t deskboard_next_line(uint32_t *frame, size_t frame_len, const uint8_t *mem, size_t mem_len, uint32_t *settings, size_t settings_len);
 
-/* Compiles a plan: refusals 6, 5, 7 to 11, 12, 13. report[0] is the number of bytes, or the item of the refusal: of this
- * call alone a refusal writes its report. report has 1 word. */
+/* Compiles a plan: refusals 6, 5, 7 to 11, 12, 13. The number of bytes goes to report[0]. 5 and 7 to 11 come with the
+ * item's number from 0; of these the order is item by item, as on the sheet. 13: the output or the report is too short. */
 uint32_t deskboard_compile(const uint8_t *plan, size_t plan_len, uint8_t *out, size_t out_len, uint32_t *report, size_t report_len);
 
 /* Installs bytes at an address of video memory: refusals 1, 14, 13. */

@@ -73,6 +73,6 @@ int main(void)
     if (refused == 0)
         refused = show();
     if (refused != 0)
-        printf("refused %u\n", (unsigned)refused);
+        printf("refused %u item %u\n", (unsigned)(refused & 255), (unsigned)(refused >> 8));
     return refused != 0;
 }

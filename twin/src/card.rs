@@ -6,10 +6,7 @@ pub const BOARD_WORDS: usize = 35;
 pub const SETTINGS_WORDS: usize = 19;
 /// The words of a frame.
 pub const FRAME_WORDS: usize = 24;
-/// The answer where a lent buffer of words is too short.
-pub const SHORT: u32 = 255;
-
-/// A desk board behind the word interface. Each call answers 0, a refusal's number or [`SHORT`].
+/// A desk board behind the word interface. Each call answers 0, or a refusal's number plus 256 times its item.
 pub trait Card {
     const NAME: &'static str;
 

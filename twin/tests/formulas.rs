@@ -8,7 +8,7 @@ mod common;
 use common::*;
 use twin::card::Card;
 use twin::random::Random;
-use twin::twin::{compile, meaning, Board, Frame, Twin};
+use twin::twin::{meaning, xdl, Board, Frame, Twin};
 
 /// One tick on the words of a sound board; its accesses.
 fn plain_tick(board: &mut [u32], mem: &mut [u8]) -> u32 {
@@ -188,12 +188,11 @@ fn an_xdl_shows_what_its_plan_means() {
     for seed in 0..3_000 {
         let mut r = Random::new(seed);
         let plan = make::plan_items(&mut r).concat();
-        let mut xdl = [0; 5_280];
-        let length = compile(&plan, &mut xdl).expect("the plan is good");
+        let xdl = xdl(&plan).expect("the plan is good");
         let mut rig = Rig::<Twin>::new();
         rig.mem = make::memory(&mut r, 16_384);
         let address = make::address(&mut r);
-        assert_eq!(Twin::install(&mut rig.mem, &xdl[..length], address), 0);
+        assert_eq!(Twin::install(&mut rig.mem, &xdl, address), 0);
         rig.board[at::XDL_ADR] = address;
         rig.board[at::VIDEO_CONTROL] = 1;
         rig.start();

@@ -5,7 +5,7 @@
 mod common;
 
 use common::*;
-use twin::card::{Card, BOARD_WORDS, FRAME_WORDS, SETTINGS_WORDS, SHORT};
+use twin::card::{Card, BOARD_WORDS, FRAME_WORDS, SETTINGS_WORDS};
 
 macro_rules! worked {
     ($(fn $name:ident<$card:ident>() $body:block)*) => {
@@ -215,29 +215,84 @@ worked! {
         assert_eq!(board[BOARD_WORDS..], [5, 5]);
     }
 
-    fn buffers_that_are_too_short<C>() {
+    fn a_state_that_is_too_short_is_unsound<C>() {
         let mut board = [0; BOARD_WORDS];
-        let mut frame = [0; FRAME_WORDS];
-        let mut mem = vec![0; 5];
+        let mut frame = [7; FRAME_WORDS];
+        let mut mem = vec![0; 16_384];
         let short = BOARD_WORDS - 1;
+        assert_eq!(C::new_board(&mut board[..short]), 15);
+        assert_eq!(C::write(&mut board[..short], 0, 0), 15);
+        assert_eq!(C::read(&board[..short], 0, &mut []), 15);
+        assert_eq!(C::reset(&mut board[..short]), 15);
+        assert_eq!(C::start(&board[..short], &mut frame), 15);
+        assert_eq!(C::start(&board, &mut frame[..FRAME_WORDS - 1]), 15);
+        for (length, number) in [(16_384, 15), (16_383, 1)] {
+            let mem = &mut mem[..length];
+            assert_eq!(C::tick(&mut board[..short], mem, &mut []), number);
+            assert_eq!(C::run(&mut board[..short], mem, u32::MAX, &mut []), number);
+            assert_eq!(C::next_line(&mut frame[..FRAME_WORDS - 1], mem, &mut []), number);
+        }
+        assert_eq!((board, frame), ([0; BOARD_WORDS], [7; FRAME_WORDS]));
         board[at::FLAGS] = 9;
-        assert_eq!(C::new_board(&mut board[..short]), SHORT);
-        assert_eq!(C::write(&mut board[..short], 0, 0), SHORT);
-        assert_eq!(C::read(&board[..short], 0, &mut [0]), SHORT);
-        assert_eq!(C::read(&board, 0, &mut []), SHORT);
-        assert_eq!(C::reset(&mut board[..short]), SHORT);
-        assert_eq!(C::tick(&mut board[..short], &mut mem, &mut [0; 2]), SHORT);
-        assert_eq!(C::tick(&mut board, &mut mem, &mut [0; 1]), SHORT);
-        assert_eq!(C::run(&mut board[..short], &mut mem, u32::MAX, &mut [0; 2]), SHORT);
-        assert_eq!(C::run(&mut board, &mut mem, u32::MAX, &mut [0; 1]), SHORT);
-        assert_eq!(C::start(&board[..short], &mut frame), SHORT);
-        assert_eq!(C::start(&board, &mut frame[..FRAME_WORDS - 1]), SHORT);
-        assert_eq!(C::next_line(&mut frame[..FRAME_WORDS - 1], &mem, &mut [0; 19]), SHORT);
-        assert_eq!(C::next_line(&mut frame, &mem, &mut [0; 18]), SHORT);
-        assert_eq!(C::compile(&[], &mut [], &mut []), SHORT);
-        let mut unsound = [0; BOARD_WORDS];
-        unsound[at::FLAGS] = 9;
-        assert_eq!((board, frame), (unsound, [0; FRAME_WORDS]));
+        assert_eq!(C::new_board(&mut board[..short]), 15);
+        assert_eq!(board[at::FLAGS], 9);
+        assert_eq!(C::new_board(&mut board), 0);
+    }
+
+    fn room_for_a_value_is_asked_for_last<C>() {
+        let mut board = [0; BOARD_WORDS];
+        assert_eq!(C::read(&board, 0x41, &mut []), 13);
+        assert_eq!(C::read(&board, 0x60, &mut []), 3);
+        board[at::FLAGS] = 9;
+        assert_eq!(C::read(&board, 0x60, &mut []), 15);
+    }
+
+    fn room_for_counts_is_asked_for_last<C>() {
+        let mut rig = Rig::<C>::with_blocks(&[four(true)]);
+        let (board, mem) = (rig.board, rig.mem.clone());
+        for mut report in [vec![], vec![999]] {
+            let before = report.clone();
+            assert_eq!(C::run(&mut rig.board, &mut rig.mem, 1_000_000, &mut report), 13);
+            assert_eq!(C::run(&mut rig.board, &mut rig.mem, 0, &mut report), 13);
+            assert_eq!(C::run(&mut rig.board, &mut rig.mem, 1_000_001, &mut report), 2);
+            assert_eq!(C::tick(&mut rig.board, &mut rig.mem, &mut report), 13);
+            assert_eq!(C::run(&mut rig.board, &mut rig.mem[..5], 1_000_001, &mut report), 1);
+            rig.board[at::FLAGS] = 9;
+            assert_eq!(C::run(&mut rig.board, &mut rig.mem, 1_000_001, &mut report), 15);
+            assert_eq!(C::tick(&mut rig.board, &mut rig.mem, &mut report), 15);
+            rig.board[at::FLAGS] = board[at::FLAGS];
+            assert_eq!((rig.board, report), (board, before));
+            assert!(rig.mem == mem);
+        }
+        assert_eq!(rig.run_all(), (5, 25));
+    }
+
+    fn room_for_settings_is_asked_for_last<C>() {
+        let mut rig = Rig::<C>::with_xdl(&[]);
+        let frame = rig.frame;
+        let mut settings = [999; SETTINGS_WORDS - 1];
+        assert_eq!(C::next_line(&mut rig.frame, &rig.mem, &mut settings), 13);
+        assert_eq!(rig.frame, frame);
+        rig.frame[at::LINE] = 240;
+        assert_eq!(C::next_line(&mut rig.frame, &rig.mem, &mut settings), 4);
+        assert_eq!(C::next_line(&mut rig.frame, &rig.mem[..5], &mut settings), 1);
+        rig.frame[at::LINE] = 241;
+        assert_eq!(C::next_line(&mut rig.frame, &rig.mem, &mut settings), 15);
+        assert_eq!(settings, [999; SETTINGS_WORDS - 1]);
+        rig.frame = frame;
+        assert_eq!(rig.answer_line(), 0);
+    }
+
+    fn room_for_the_number_of_bytes_is_asked_for_last<C>() {
+        let mut out = [0xEE; 22];
+        assert_eq!(C::compile(&[], &mut out, &mut []), 6);
+        assert_eq!(C::compile(&joined(&[full(), vec![0]]), &mut out, &mut []), 5 + 256);
+        assert_eq!(C::compile(&times(241, full()), &mut out, &mut []), 11 + 256 * 240);
+        assert_eq!(C::compile(&full(), &mut out, &mut []), 13);
+        assert_eq!(C::compile(&full(), &mut out[..21], &mut []), 13);
+        assert_eq!(C::compile(&full(), &mut out[..21], &mut [0]), 13);
+        assert_eq!(out, [0xEE; 22]);
+        assert_eq!(C::compile(&full(), &mut out, &mut [0]), 0);
     }
 
     fn words_past_the_last_stay<C>() {

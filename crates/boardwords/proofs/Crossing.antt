@@ -9,7 +9,7 @@ use borrow.Author.Tests.{le-leb}
 use Rattle.board.specs.declared.Board.{Board}
 use Rattle.words.specs.Words.{wordAt, byteIn, halfIn, within, laid, aByte, aHalf}
 use Rattle.words.proofs.Within.{byte-kept, half-kept, switch-kept}
-use Rattle.boardwords.specs.Board.{portsOf, sideOf, blockOf, blitterOf, boardOf, boardWords, boardMost, boardFits}
+use Rattle.boardwords.specs.Board.{boardSize, portsOf, sideOf, blockOf, blitterOf, boardOf, boardWords, boardMost, boardFits}
 
 -- in front of any words
 module _ (b : Board) (rest : List ℕ) (fits : boardFits (boardWords b ++ rest) ≡ true) where
@@ -17,8 +17,8 @@ module _ (b : Board) (rest : List ℕ) (fits : boardFits (boardWords b ++ rest) 
   unfolding boardOf portsOf sideOf blockOf blitterOf boardWords boardMost
   board-back =
       let words : List ℕ = boardWords b ++ rest in
-      let byte : ((k : ℕ) → k < 35 → getD boardMost k 0 ≡ aByte → byteIn words k ≡ wordAt words k) = byte-kept boardMost words fits in
-      let half : ((k : ℕ) → k < 35 → getD boardMost k 0 ≡ aHalf → halfIn words k ≡ wordAt words k) = half-kept boardMost words fits in
+      let byte : ((k : ℕ) → k < boardSize → getD boardMost k 0 ≡ aByte → byteIn words k ≡ wordAt words k) = byte-kept boardMost words fits in
+      let half : ((k : ℕ) → k < boardSize → getD boardMost k 0 ≡ aHalf → halfIn words k ≡ wordAt words k) = half-kept boardMost words fits in
       λ i.
       record {
         ports = record {
@@ -74,9 +74,9 @@ unfolding boardWords boardMost within
 board-rest b rest fits = fits
 
 pub board-crosses :
-    (b : Board) (words : List ℕ) → 35 ≤ length words → boardFits (boardWords b) ≡ true
+    (b : Board) (words : List ℕ) → boardSize ≤ length words → boardFits (boardWords b) ≡ true
     → (boardFits (laid (boardWords b) words) ≡ true) × (boardOf (laid (boardWords b) words) ≡ b)
 unfolding boardWords
 board-crosses b words room fits =
-    let front = board-rest b (drop 35 words) fits in
-    simp (le-leb 35 (length words) room) (front, board-back b (drop 35 words) front)
+    let front = board-rest b (drop boardSize words) fits in
+    simp (le-leb boardSize (length words) room) (front, board-back b (drop boardSize words) front)

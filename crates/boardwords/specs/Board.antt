@@ -1,4 +1,4 @@
--- include/deskboard.h: "A board is 35 words".
+-- include/deskboard.h: a board as words, and back.
 use mathlib.Core.Bool.{Bool}
 use mathlib.Core.List.{List, [], _∷_, _++_}
 use Prim.Native.Nat.{ℕ, _+_}
@@ -8,6 +8,10 @@ use Rattle.blitter.specs.declared.Blitter.{Blitter}
 use Rattle.board.specs.declared.Ports.{Ports}
 use Rattle.board.specs.declared.Board.{Board}
 use Rattle.words.specs.Words.{wordAt, byteIn, halfIn, switchIn, switchWord, aByte, aHalf, aWord, within}
+
+-- "A board is 35 words"
+abbrev pub boardSize : ℕ
+boardSize = 35
 
 -- "0 VIDEO_CONTROL, 1 XDL_ADR, 2 BL_ADR, 3..6 P0..P3"
 unfoldable pub portsOf : List ℕ → Ports
@@ -92,7 +96,7 @@ positionWords b = b .blitter .row ∷ b .blitter .col ∷ []
 unfoldable pub boardWords : Board → List ℕ
 boardWords b = (registerWords b ++ blockWords (b .blitter .block)) ++ positionWords b
 
--- "out of its field's type (a byte above 255, a switch that is neither 0 nor 1, a row or column above 65,535)": the largest word of each field
+-- "out of its field's type (a byte above 255, a switch that is neither 0 nor 1, a 16-bit field above 65,535)": the largest word of each field
 abbrev pub registerMost : List ℕ
 registerMost =
     aByte ∷ aWord ∷ aWord ∷ aByte ∷ aByte ∷ aByte ∷ aByte

@@ -15,6 +15,9 @@ use words::lay;
 use words::switch;
 use words::word;
 
+// The words of a board.
+pub const BOARD_WORDS: usize = 35;
+
 fn ports_of(words: &[u32]) -> Ports
     ensures { λ r. ⌜ r ≡ portsOf (now (words .entry)) ⌝ }
 {
@@ -172,7 +175,7 @@ pub fn put_board(words: &mut [u32], board: Board)
         blitter.code as u32,
     ];
     let position = [blitter.row as u32, blitter.col as u32];
-    if words.len() < 35 {
+    if words.len() < BOARD_WORDS {
         return;
     }
     lay(words, &registers);

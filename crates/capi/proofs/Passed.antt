@@ -1,8 +1,8 @@
--- A call whose lent words are long enough and fit, on memory of a good length, goes by the board's, the frame's or the plan's own answer. Assumes nothing.
+-- A call whose lent words are enough and fit, on memory of a good length, goes by the board's, the frame's or the plan's own answer, and then by its report's room. Assumes nothing.
 use mathlib.Core.Path.{_≡_, refl, sym, ap, _∙_}
-use mathlib.Core.Bool.{true}
+use mathlib.Core.Bool.{Bool, true, false}
 use mathlib.Core.List.{List, [], _∷_}
-use Prim.Native.Nat.{ℕ, _≤_}
+use Prim.Native.Nat.{ℕ, _≤_, _<_}
 use native.Mathlib.Omega.{arith}
 use lib.Dec.{leb}
 use lib.ListN.{length}
@@ -12,47 +12,50 @@ use Rattle.refusal.specs.Sheet.{Told, done, refused, unless, kept}
 use Rattle.vram.specs.Memory.{goodLength}
 use Rattle.engine.specs.Run.{Counts}
 use Rattle.board.specs.declared.Board.{Board}
-use Rattle.board.specs.Board.{newBoard, writeAnswer, writeBoard, readAnswer, resetAnswer, resetBoard, runAnswer, runBoard, runMemory}
+use Rattle.board.specs.Board.{newBoard, soundBoard, writeAnswer, writeBoard, readAnswer, resetAnswer, resetBoard, runAnswer, runBoard, runMemory}
 use Rattle.board.proofs.Answer.{tick-answer, tick-board, tick-memory}
 use Rattle.settings.specs.declared.Settings.{Settings}
 use Rattle.frame.specs.declared.Frame.{Frame}
 use Rattle.frame.specs.Frame.{lineAnswer, lineFrame, startAnswer}
 use Rattle.plan.specs.Compile.{compileTold, checkedOf, fitting, compileAnswer, compileOutput}
 use Rattle.plan.specs.Plan.{parse}
+use Rattle.plan.proofs.Refused.{roomless, no-room}
 use Rattle.words.specs.Words.{laid}
-use Rattle.boardwords.specs.Board.{boardOf, boardWords, boardFits}
-use Rattle.framewords.specs.Frame.{settingsWords, frameOf, frameWords, frameFits}
-use Rattle.capi.specs.Calls.{numberTold, reported, long, countWords, newCall, newWords, writeCall, writeWords, readCall, resetCall, resetWords, tickCall, tickWords, tickBytes, tickReport, runCall, runWords, runBytes, runReport, startCall, lineCall, lineWords, lineSettings, compileCall, compileBytes, valueTold, compileReport}
-use Rattle.capi.proofs.Told.{past, as-number, as-change, as-report, done-number, done-change, done-report, kept-twice}
+use Rattle.boardwords.specs.Board.{boardSize, boardOf, boardWords, boardFits}
+use Rattle.framewords.specs.Frame.{settingsSize, frameSize, settingsWords, frameOf, frameWords, frameFits}
+use Rattle.capi.specs.Calls.{numberTold, reported, whole, reportable, countWords, newCall, newWords, writeCall, writeWords, readCall, resetCall, resetWords, tickCall, tickWords, tickBytes, tickReport}
+use Rattle.capi.specs.Calls.{runCall, runUnreported, runWords, runBytes, runReport, startCall, lineCall, lineWords, lineSettings, compileCall, compileBytes, compileReport}
+use Rattle.capi.proofs.Told.{past, roomy, short, as-number, as-change, as-report, done-number, done-change, done-report, short-change, short-report, kept-twice}
 
 pub new-done :
-    (board : List ℕ) (b : Board) (now : List ℕ) → 35 ≤ length board → b ≡ newBoard → now ≡ laid (boardWords b) board
+    (board : List ℕ) (b : Board) (now : List ℕ) → boardSize ≤ length board → b ≡ newBoard → now ≡ laid (boardWords b) board
     → (0 ≡ numberTold (newCall board)) × (now ≡ newWords board)
 unfolding newCall
-new-done board b now long is p =
-    let e = past (leb 35 (length board)) 255 (done tt) (le-leb 35 (length board) long) in
+new-done board b now enough is p =
+    let e = past (leb boardSize (length board)) 15 (done tt) (le-leb boardSize (length board) enough) in
     (done-number _ _ e, done-change _ _ e board _ now (p ∙ ap (λ (x : Board). laid (boardWords x) board) is))
 
--- the board that is read from words that are long enough and fit
-module _ (board : List ℕ) (b : Board) (long : 35 ≤ length board) (fits : boardFits board ≡ true) (is : b ≡ boardOf board) where
+-- the board that is read from words that are enough and fit
+module _ (board : List ℕ) (b : Board) (enough : boardSize ≤ length board) (fits : boardFits board ≡ true) (is : b ≡ boardOf board) where
+  on-board : {X : Type 0} (answer : Board → Told X) (told : Told X) → told ≡ answer b → whole boardSize board (unless (boardFits board) 15 (answer (boardOf board))) ≡ told
+  on-board answer told t = simp (le-leb boardSize (length board) enough, fits) (ap answer (sym is) ∙ sym t)
+
   write-passed : (offset : ℕ) (told : Told (Unit {0})) → told ≡ writeAnswer b offset → writeCall board offset ≡ told
   unfolding writeCall
-  write-passed offset told t =
-      simp (le-leb 35 (length board) long, fits) (ap (λ (x : Board). writeAnswer x offset) (sym is) ∙ sym t)
+  write-passed offset told t = on-board (λ x. writeAnswer x offset) told t
 
   reset-passed : (told : Told (Unit {0})) → told ≡ resetAnswer b → resetCall board ≡ told
   unfolding resetCall
-  reset-passed told t = simp (le-leb 35 (length board) long, fits) (ap resetAnswer (sym is) ∙ sym t)
+  reset-passed told t = on-board resetAnswer told t
 
-  pub read-passed : (offset : ℕ) (report : List ℕ) → 1 ≤ length report → (told : Told ℕ) → told ≡ readAnswer b offset → readCall board offset report ≡ told
+  pub read-passed : (offset : ℕ) (report : List ℕ) (told : Told ℕ) → told ≡ readAnswer b offset → readCall board offset report ≡ reportable 1 report told
   unfolding readCall
-  read-passed offset report h told t =
-      simp (le-leb 35 (length board) long, le-leb 1 (length report) h, fits) (ap (λ (x : Board). readAnswer x offset) (sym is) ∙ sym t)
+  read-passed offset report told t = ap (reportable 1 report) (on-board (λ x. readAnswer x offset) told t)
 
-  pub start-passed : (frame : List ℕ) → 24 ≤ length frame → (told : Told Frame) → told ≡ startAnswer b → startCall board frame ≡ told
+  pub start-passed : (frame : List ℕ) → frameSize ≤ length frame → (told : Told Frame) → told ≡ startAnswer b → startCall board frame ≡ told
   unfolding startCall
   start-passed frame h told t =
-      simp (le-leb 35 (length board) long, le-leb 24 (length frame) h, fits) (ap startAnswer (sym is) ∙ sym t)
+      ap (whole boardSize board) (past (leb frameSize (length frame)) 15 _ (le-leb frameSize (length frame) h)) ∙ on-board startAnswer told t
 
   -- a board a that is laid over the words where the call was done
   module _ {X : Type 0} (told : Told X) (a : Board) (k : ℕ) (now : List ℕ) (n : k ≡ numberTold told) (s : now ≡ kept told board (laid (boardWords a) board)) where
@@ -67,32 +70,59 @@ module _ (board : List ℕ) (b : Board) (long : 35 ≤ length board) (fits : boa
     pub reset-done : told ≡ resetAnswer b → a ≡ resetBoard b → (k ≡ numberTold (resetCall board)) × (now ≡ resetWords board)
     reset-done t w = settled told a k now n s _ resetBoard (reset-passed told t) w
 
-  module _ (mem report : List ℕ) (h : 2 ≤ length report) (good : goodLength (length mem) ≡ true) (told : Told Counts) where
-    run-passed : (budget : ℕ) → told ≡ runAnswer b mem budget → runCall board mem budget report ≡ told
-    unfolding runCall
-    run-passed budget t =
-        simp (le-leb 35 (length board) long, le-leb 2 (length report) h, good, fits) (ap (λ (x : Board). runAnswer x mem budget) (sym is) ∙ sym t)
+  module _ (mem report : List ℕ) (budget : ℕ) (good : goodLength (length mem) ≡ true) where
+    -- a run answers k, and leaves these words, these bytes and this report
+    abbrev pub Runs : ℕ → List ℕ → List ℕ → List ℕ → Type 0
+    Runs k now bytes counts =
+        (k ≡ numberTold (runCall board mem budget report))
+        × ((now ≡ runWords board mem budget report)
+        × ((bytes ≡ runBytes board mem budget report) × (counts ≡ runReport board mem budget report)))
 
-    module _
-        (a : Board) (k : ℕ) (now bytes counts : List ℕ)
-        (n : k ≡ numberTold told) (s : now ≡ kept told board (laid (boardWords a) board)) (r : counts ≡ reported countWords told report) where
-      pub run-done :
-          (budget : ℕ) → told ≡ runAnswer b mem budget → a ≡ runBoard b mem budget → bytes ≡ runMemory b mem budget
-          → (k ≡ numberTold (runCall board mem budget report)) × ((now ≡ runWords board mem budget report) × ((bytes ≡ runBytes board mem budget report) × (counts ≡ runReport board mem budget report)))
-      unfolding runMemory
-      run-done budget t w p =
+    run-passed : (told : Told Counts) → told ≡ runAnswer b mem budget → runCall board mem budget report ≡ reportable 2 report told
+    unfolding runCall
+    run-passed told t =
+        ap (reportable 2 report) (past (goodLength (length mem)) 1 _ good ∙ on-board (λ x. runAnswer x mem budget) told t)
+
+    pub run-done :
+        2 ≤ length report → (told : Told Counts) (a : Board) (k : ℕ) (now bytes counts : List ℕ)
+        → k ≡ numberTold told → now ≡ kept told board (laid (boardWords a) board) → counts ≡ reported countWords told report
+        → told ≡ runAnswer b mem budget → a ≡ runBoard b mem budget → bytes ≡ runMemory b mem budget
+        → Runs k now bytes counts
+    unfolding runMemory
+    run-done h told a k now bytes counts n s r t w p =
+        let call = runCall board mem budget report in
+        let e = run-passed told t ∙ roomy 2 report told h in
+        let both = settled told a k now n s call (λ x. runBoard x mem budget) e w in
+        let kept-so = kept-twice (runAnswer b mem budget) mem _ ∙ ap (λ (x : Told Counts). kept x mem (runMemory b mem budget)) (sym t) in
+        let same = as-change call told e mem _ _ bytes (ap (λ (x : Board). runMemory x mem budget) is) (p ∙ kept-so) in
+        (both .0, (both .1, (same, as-report call told e countWords report counts r)))
+
+    -- the counts have no room
+    module _ (h : length report < 2) where
+      refusals : (s l : Bool) (v : Counts) → reportable 2 report (unless s 15 (unless l 2 (done v))) ≡ unless s 15 (unless l 2 (refused 13 0))
+      refusals true true v = short 2 report h v
+      refusals true false v = refl
+      refusals false l v = refl
+
+      same-refusal : reportable 2 report (runAnswer b mem budget) ≡ runUnreported b budget
+      unfolding runAnswer
+      same-refusal = simp good (refusals (soundBoard b) (leb budget 1000000) _)
+
+      pub run-short : (k : ℕ) → k ≡ numberTold (runUnreported b budget) → Runs k board mem report
+      run-short k n =
           let call = runCall board mem budget report in
-          let e = run-passed budget t in
-          let both = settled told a k now n s call (λ x. runBoard x mem budget) e w in
-          let kept-so = kept-twice (runAnswer b mem budget) mem _ ∙ ap (λ (x : Told Counts). kept x mem (runMemory b mem budget)) (sym t) in
-          (both .0, (both .1, (as-change call told e mem _ _ bytes (ap (λ (x : Board). runMemory x mem budget) is) (p ∙ kept-so), as-report call told e countWords report counts r)))
+          let told = runAnswer b mem budget in
+          let e = run-passed told refl in
+          let none = short-report 2 report h call told e countWords report in
+          (as-number call _ (e ∙ same-refusal) k n, (short-change 2 report h call told e board _, (short-change 2 report h call told e mem _, none)))
 
 -- one tick is the run with a budget of 1
 module _ (board mem report : List ℕ) where
   tick-call : runCall board mem 1 report ≡ tickCall board mem report
   unfolding runCall tickCall
   tick-call =
-      ap (λ (t : Told Counts). long 35 board (long 2 report (unless (goodLength (length mem)) 1 (unless (boardFits board) 15 t)))) (tick-answer (boardOf board) mem)
+      let told : (Told Counts → Told Counts) = λ t. reportable 2 report (unless (goodLength (length mem)) 1 (whole boardSize board (unless (boardFits board) 15 t))) in
+      ap told (tick-answer (boardOf board) mem)
 
   pub tick-done :
       (k : ℕ) (now bytes counts : List ℕ)
@@ -109,23 +139,25 @@ module _ (board mem report : List ℕ) where
 
 -- the same of a frame
 module _
-    (frame mem settings : List ℕ) (f : Frame) (long : 24 ≤ length frame) (h : 19 ≤ length settings)
-    (good : goodLength (length mem) ≡ true) (fits : frameFits frame ≡ true) (is : f ≡ frameOf frame) where
-  pub line-passed : (told : Told Settings) → told ≡ lineAnswer f mem → lineCall frame mem settings ≡ told
+    (frame mem settings : List ℕ) (f : Frame) (good : goodLength (length mem) ≡ true)
+    (enough : frameSize ≤ length frame) (fits : frameFits frame ≡ true) (is : f ≡ frameOf frame) where
+  pub line-passed : (told : Told Settings) → told ≡ lineAnswer f mem → lineCall frame mem settings ≡ reportable settingsSize settings told
   unfolding lineCall
   line-passed told t =
-      past (leb 24 (length frame)) 255 _ (le-leb 24 (length frame) long)
-      ∙ past (leb 19 (length settings)) 255 _ (le-leb 19 (length settings) h)
-      ∙ past (goodLength (length mem)) 1 _ good
+      ap
+      (reportable settingsSize settings)
+      (past (goodLength (length mem)) 1 _ good
+      ∙ past (leb frameSize (length frame)) 15 _ (le-leb frameSize (length frame) enough)
       ∙ past (frameFits frame) 15 _ fits
       ∙ ap (λ (x : Frame). lineAnswer x mem) (sym is)
-      ∙ sym t
+      ∙ sym t)
 
   pub line-done :
-      (s : Settings) (g : Frame) (now line : List ℕ) → done s ≡ lineAnswer f mem → g ≡ lineFrame f mem → now ≡ laid (frameWords g) frame → line ≡ laid (settingsWords s) settings
+      settingsSize ≤ length settings → (s : Settings) (g : Frame) (now line : List ℕ) → done s ≡ lineAnswer f mem → g ≡ lineFrame f mem
+      → now ≡ laid (frameWords g) frame → line ≡ laid (settingsWords s) settings
       → (0 ≡ numberTold (lineCall frame mem settings)) × ((now ≡ lineWords frame mem settings) × (line ≡ lineSettings frame mem settings))
-  line-done s g now line t w p q =
-      let e = line-passed (done s) t in (
+  line-done h s g now line t w p q =
+      let e = line-passed (done s) t ∙ roomy settingsSize settings (done s) h in (
         done-number _ _ e,
         (
           done-change _ _ e frame _ now (p ∙ ap (λ (x : Frame). laid (frameWords x) frame) (w ∙ ap (λ (x : Frame). lineFrame x mem) is)),
@@ -133,22 +165,10 @@ module _
         ),
       )
 
+-- a plan
 pub compile-passed : (plan : List ℕ) (room : ℕ) (report : List ℕ) → 1 ≤ length report → compileCall plan room report ≡ compileAnswer plan room
 unfolding compileCall
-compile-passed plan room report h = simp (le-leb 1 (length report) h)
-
--- the output, also where a plan is refused
-pub compile-out :
-    (plan out report now : List ℕ) → compileCall plan (length out) report ≡ compileAnswer plan (length out) → now ≡ compileOutput plan out
-    → now ≡ compileBytes plan out report
-unfolding compileOutput
-compile-out plan out report now e p = as-change _ _ e out _ _ now refl (p ∙ kept-twice (compileAnswer plan (length out)) out _)
-
--- the number of bytes, or the item
-pub compile-report :
-    (plan : List ℕ) (room : ℕ) (report : List ℕ) (told : Told ℕ) (now : List ℕ) → compileAnswer plan room ≡ told → now ≡ laid (valueTold told ∷ []) report
-    → now ≡ compileReport plan room report
-compile-report plan room report told now e p = p ∙ ap (λ (t : Told ℕ). laid (valueTold t ∷ []) report) (sym e)
+compile-passed plan room report h = roomy 1 report (compileAnswer plan room) h
 
 -- a list that was compiled has 8,192 bytes at most
 pub compile-small : (plan : List ℕ) (room n : ℕ) → compileAnswer plan room ≡ done n → n ≤ 8192
@@ -163,3 +183,32 @@ compile-small plan room n = by (compileTold (checkedOf (parse plan)))
         let same : m ≡ n = cc (two .1) in
         omega arith
     by (refused k item) e = absurd (let z : _≡_ {A = ℕ} 0 1 = cc in omega arith)
+
+-- into no room at all it is refused
+pub no-room-done : (plan : List ℕ) (n : ℕ) {A : Type 0} → compileAnswer plan 0 ≡ done n → A
+no-room-done plan n e = by (compileAnswer plan 0) e (no-room plan 0)
+  where
+    by : (told : Told ℕ) {A : Type 0} → told ≡ done n → told ≡ roomless told → A
+    by (done m) d q = absurd (let z : _≡_ {A = ℕ} 0 1 = cc q in omega arith)
+    by (refused k item) d q = absurd (let z : _≡_ {A = ℕ} 0 1 = cc d in omega arith)
+
+module _ (plan out report : List ℕ) where
+  -- the output, also where a plan is refused
+  pub compile-out : (now : List ℕ) → compileCall plan (length out) report ≡ compileAnswer plan (length out) → now ≡ compileOutput plan out → now ≡ compileBytes plan out report
+  unfolding compileOutput
+  compile-out now e p = as-change _ _ e out _ _ now refl (p ∙ kept-twice (compileAnswer plan (length out)) out _)
+
+  -- the count has no room: as if the output had none
+  module _ (h : length report < 1) where
+    as-roomless : (told : Told ℕ) → reportable 1 report told ≡ roomless told
+    as-roomless (done n) = short 1 report h n
+    as-roomless (refused k item) = refl
+
+    pub compile-short :
+        (k : ℕ) → k ≡ numberTold (compileAnswer plan 0)
+        → (k ≡ numberTold (compileCall plan (length out) report)) × ((out ≡ compileBytes plan out report) × (report ≡ compileReport plan (length out) report))
+    unfolding compileCall
+    compile-short k n =
+        let told = compileAnswer plan (length out) in
+        let e : reportable 1 report told ≡ compileAnswer plan 0 = as-roomless told ∙ sym (no-room plan (length out)) in
+        (as-number _ _ e k n, (short-change 1 report h _ told refl out _, short-report 1 report h _ told refl _ report))

@@ -1,59 +1,67 @@
 -- include/deskboard.h: what each call returns, and what it leaves in the words and in the memory that are lent to it.
 use mathlib.Core.List.{List, [], _∷_}
-use Prim.Native.Nat.{ℕ}
+use Prim.Native.Nat.{ℕ, _+_, _*_}
 use lib.Dec.{leb}
 use lib.ListN.{length}
 use Rattle.refusal.specs.Sheet.{Told, done, refused, unless, kept}
 use Rattle.vram.specs.Memory.{goodLength}
 use Rattle.engine.specs.Run.{Counts}
-use Rattle.board.specs.Board.{newBoard, writeAnswer, writeBoard, readAnswer, resetAnswer, resetBoard, runAnswer, runBoard, runMemory, tickAnswer, tickBoard, tickMem}
+use Rattle.board.specs.Board.{newBoard, soundBoard, writeAnswer, writeBoard, readAnswer, resetAnswer, resetBoard, runAnswer, runBoard, runMemory, tickAnswer, tickBoard, tickMem}
+use Rattle.board.specs.declared.Board.{Board}
 use Rattle.settings.specs.declared.Settings.{Settings}
 use Rattle.frame.specs.declared.Frame.{Frame}
 use Rattle.frame.specs.Frame.{lineAnswer, lineFrame, startAnswer}
 use Rattle.plan.specs.Compile.{compileAnswer, compileOutput}
 use Rattle.words.specs.Words.{laid}
-use Rattle.boardwords.specs.Board.{boardOf, boardWords, boardFits}
-use Rattle.framewords.specs.Frame.{settingsWords, frameOf, frameWords, frameFits}
+use Rattle.boardwords.specs.Board.{boardSize, boardOf, boardWords, boardFits}
+use Rattle.framewords.specs.Frame.{settingsSize, frameSize, settingsWords, frameOf, frameWords, frameFits}
 
--- "0 where it was done, or the number of its refusal"
+-- "0 where it was done, else the number of its refusal plus 256 times the item"
 abbrev pub numberTold : {X : Type 0} → Told X → ℕ
 numberTold (done v) = 0
-numberTold (refused number item) = number
+numberTold (refused number item) = number + 256 * item
 
--- where it was done its values are laid over what is lent; "A refused call changes nothing"
+-- where it was done its values are laid over what is lent; "A refused call changes nothing that was lent to it"
 abbrev pub reported : {X : Type 0} → (X → List ℕ) → Told X → List ℕ → List ℕ
 reported words (done v) old = laid (words v) old
 reported words (refused number item) old = old
 
--- "DESKBOARD_SHORT .. a lent buffer of words is shorter than this page says. It is tested before everything else."
-abbrev pub long : {X : Type 0} → ℕ → List ℕ → Told X → Told X
-long n words rest = unless (leb n (length words)) 255 rest
+-- "A state's buffer that is shorter than the state is refusal 15"
+abbrev pub whole : {X : Type 0} → ℕ → List ℕ → Told X → Told X
+whole n words rest = unless (leb n (length words)) 15 rest
 
--- "A new board."
+-- "A report or settings buffer that is too short is refusal 13, tested last": after all else
+abbrev pub reportable : {X : Type 0} → ℕ → List ℕ → Told X → Told X
+reportable n report (done v) = unless (leb n (length report)) 13 (done v)
+reportable n report (refused number item) = refused number item
+
+-- "A new board: refusal 15."
 unfoldable pub newCall : List ℕ → Told (Unit {0})
-newCall board = long 35 board (done tt)
+newCall board = whole boardSize board (done tt)
 
 abbrev pub newWords : List ℕ → List ℕ
 newWords board = kept (newCall board) board (laid (boardWords newBoard) board)
 
--- writing a register: "refusals 15, 3"
+-- "Writes a register, offsets 0x40 to 0x5F: refusals 15, 3."
 unfoldable pub writeCall : List ℕ → ℕ → Told (Unit {0})
-writeCall board offset = long 35 board (unless (boardFits board) 15 (writeAnswer (boardOf board) offset))
+writeCall board offset =
+    whole boardSize board (unless (boardFits board) 15 (writeAnswer (boardOf board) offset))
 
 abbrev pub writeWords : List ℕ → ℕ → ℕ → List ℕ
 writeWords board offset v = kept (writeCall board offset) board (laid (boardWords (writeBoard (boardOf board) offset v)) board)
 
--- reading one: "A value read goes to report[0]."
+-- "Reads one: refusals 15, 3, 13. The value goes to report[0]."
 unfoldable pub readCall : List ℕ → ℕ → List ℕ → Told ℕ
 readCall board offset report =
-    long 35 board (long 1 report (unless (boardFits board) 15 (readAnswer (boardOf board) offset)))
+    reportable 1 report
+    (whole boardSize board (unless (boardFits board) 15 (readAnswer (boardOf board) offset)))
 
 abbrev pub readReport : List ℕ → ℕ → List ℕ → List ℕ
 readReport board offset report = reported (λ v. v ∷ []) (readCall board offset report) report
 
 -- "RESET: refusal 15."
 unfoldable pub resetCall : List ℕ → Told (Unit {0})
-resetCall board = long 35 board (unless (boardFits board) 15 (resetAnswer (boardOf board)))
+resetCall board = whole boardSize board (unless (boardFits board) 15 (resetAnswer (boardOf board)))
 
 abbrev pub resetWords : List ℕ → List ℕ
 resetWords board = kept (resetCall board) board (laid (boardWords (resetBoard (boardOf board))) board)
@@ -62,11 +70,12 @@ resetWords board = kept (resetCall board) board (laid (boardWords (resetBoard (b
 abbrev pub countWords : Counts → List ℕ
 countWords n = n .ticks ∷ n .accesses ∷ []
 
--- "One tick, refusals 1, 15"
+-- "One tick: refusals 1, 15, 13."
 unfoldable pub tickCall : List ℕ → List ℕ → List ℕ → Told Counts
 tickCall board mem report =
-    long 35 board (long 2 report
-    (unless (goodLength (length mem)) 1 (unless (boardFits board) 15 (tickAnswer (boardOf board) mem))))
+    reportable 2 report
+    (unless (goodLength (length mem)) 1
+    (whole boardSize board (unless (boardFits board) 15 (tickAnswer (boardOf board) mem))))
 
 abbrev pub tickWords : List ℕ → List ℕ → List ℕ → List ℕ
 tickWords board mem report = kept (tickCall board mem report) board (laid (boardWords (tickBoard (boardOf board) mem)) board)
@@ -77,11 +86,16 @@ tickBytes board mem report = kept (tickCall board mem report) mem (tickMem (boar
 abbrev pub tickReport : List ℕ → List ℕ → List ℕ → List ℕ
 tickReport board mem report = reported countWords (tickCall board mem report) report
 
--- "a run, refusals 1, 15, 2"
+-- "A run: refusals 1, 15, 2, 13."
 unfoldable pub runCall : List ℕ → List ℕ → ℕ → List ℕ → Told Counts
 runCall board mem budget report =
-    long 35 board (long 2 report
-    (unless (goodLength (length mem)) 1 (unless (boardFits board) 15 (runAnswer (boardOf board) mem budget))))
+    reportable 2 report
+    (unless (goodLength (length mem)) 1
+    (whole boardSize board (unless (boardFits board) 15 (runAnswer (boardOf board) mem budget))))
+
+-- what is left of it where the memory is good, the words fit and the report is too short: it is done in no case
+abbrev pub runUnreported : Board → ℕ → Told Counts
+runUnreported b budget = unless (soundBoard b) 15 (unless (leb budget 1000000) 2 (refused 13 0))
 
 abbrev pub runWords : List ℕ → List ℕ → ℕ → List ℕ → List ℕ
 runWords board mem budget report =
@@ -93,18 +107,21 @@ runBytes board mem budget report = kept (runCall board mem budget report) mem (r
 abbrev pub runReport : List ℕ → List ℕ → ℕ → List ℕ → List ℕ
 runReport board mem budget report = reported countWords (runCall board mem budget report) report
 
--- "Frame start, refusal 15: makes a frame from a board."
+-- "Frame start: refusal 15. Makes a frame from a board."
 unfoldable pub startCall : List ℕ → List ℕ → Told Frame
-startCall board frame = long 35 board (long 24 frame (unless (boardFits board) 15 (startAnswer (boardOf board))))
+startCall board frame =
+    whole boardSize board
+    (whole frameSize frame (unless (boardFits board) 15 (startAnswer (boardOf board))))
 
 abbrev pub startWords : List ℕ → List ℕ → List ℕ
 startWords board frame = reported frameWords (startCall board frame) frame
 
--- "The next line, refusals 1, 15, 4: the frame goes on, and the line's settings go to settings[0..18]."
+-- "The next line: refusals 1, 15, 4, 13. The frame goes on, and the line's settings go to settings[0..18]."
 unfoldable pub lineCall : List ℕ → List ℕ → List ℕ → Told Settings
 lineCall frame mem settings =
-    long 24 frame (long 19 settings
-    (unless (goodLength (length mem)) 1 (unless (frameFits frame) 15 (lineAnswer (frameOf frame) mem))))
+    reportable settingsSize settings
+    (unless (goodLength (length mem)) 1
+    (whole frameSize frame (unless (frameFits frame) 15 (lineAnswer (frameOf frame) mem))))
 
 abbrev pub lineWords : List ℕ → List ℕ → List ℕ → List ℕ
 lineWords frame mem settings = kept (lineCall frame mem settings) frame (laid (frameWords (lineFrame (frameOf frame) mem)) frame)
@@ -112,17 +129,12 @@ lineWords frame mem settings = kept (lineCall frame mem settings) frame (laid (f
 abbrev pub lineSettings : List ℕ → List ℕ → List ℕ → List ℕ
 lineSettings frame mem settings = reported settingsWords (lineCall frame mem settings) settings
 
--- "Compiles a plan: refusals 6, 5, 7 to 11, 12, 13."
+-- "Compiles a plan: refusals 6, 5, 7 to 11, 12, 13. The number of bytes goes to report[0]."
 unfoldable pub compileCall : List ℕ → ℕ → List ℕ → Told ℕ
-compileCall plan room report = long 1 report (compileAnswer plan room)
+compileCall plan room report = reportable 1 report (compileAnswer plan room)
 
 abbrev pub compileBytes : List ℕ → List ℕ → List ℕ → List ℕ
 compileBytes plan out report = kept (compileCall plan (length out) report) out (compileOutput plan out)
 
--- "report[0] is the number of bytes, or the item of the refusal: of this call alone a refusal writes its report"
-abbrev pub valueTold : Told ℕ → ℕ
-valueTold (done v) = v
-valueTold (refused number item) = item
-
 abbrev pub compileReport : List ℕ → ℕ → List ℕ → List ℕ
-compileReport plan room report = laid (valueTold (compileAnswer plan room) ∷ []) report
+compileReport plan room report = reported (λ n. n ∷ []) (compileCall plan room report) report

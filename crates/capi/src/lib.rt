@@ -1,9 +1,12 @@
 // What C and Rust call: include/deskboard.h says each call in words.
+// A call tests in the order of the refusal sheet: memory (1), its states (15), then its own, and last the room of its report (13).
 ghost use mathlib.Core.Path.{_≡_};
 ghost use lib.ListN.{length};
-ghost use Rattle.refusal.specs.Sheet.{outcomeTold, kept};
+ghost use Prim.Native.Nat.{_+_, _*_, _≤_};
+ghost use Rattle.refusal.specs.Sheet.{numberOf, outcomeTold, kept};
 ghost use Rattle.vram.specs.Install.{installAnswer, installMemory};
 ghost use Rattle.engine.specs.Run.{runTold};
+ghost use Rattle.plan.specs.Compile.{compileAnswer};
 ghost use Rattle.words.specs.Words.{laid};
 ghost use Rattle.boardwords.specs.Board.{boardWords};
 ghost use Rattle.capi.specs.Calls.{
@@ -23,6 +26,7 @@ ghost use Rattle.capi.specs.Calls.{
   tickBytes,
   tickReport,
   runCall,
+  runUnreported,
   runWords,
   runBytes,
   runReport,
@@ -39,12 +43,16 @@ use board::Board;
 use board::Changed;
 use board::Ran;
 use board::ReadReport;
+use boardwords::BOARD_WORDS;
 use engine::RunReport;
 use frame::Frame;
 use frame::FrameStart;
 use frame::LineReport;
+use framewords::FRAME_WORDS;
+use framewords::SETTINGS_WORDS;
 use plan::Compiled;
 use refusal::Outcome;
+use refusal::Refusal;
 
 // The words of a board after a write or a reset that was done, and the number of the call.
 fn settle(board: &mut [u32], changed: Changed) -> u32
@@ -83,8 +91,8 @@ pub extern "C" fn deskboard_new(board: &mut [u32]) -> u32
     ensures number { λ r. ⌜ r ≡ numberTold (newCall (now (board .entry))) ⌝ }
     ensures board { λ _. ⌜ now (board .exit) ≡ newWords (now (board .entry)) ⌝ }
 {
-    if board.len() < 35 {
-        return 255;
+    if board.len() < BOARD_WORDS {
+        return 15;
     }
     let b = Board::new();
     boardwords::put_board(board, b);
@@ -96,8 +104,8 @@ pub extern "C" fn deskboard_write(board: &mut [u32], offset: u32, value: u8) -> 
     ensures number { λ r. ⌜ r ≡ numberTold (writeCall (now (board .entry)) offset) ⌝ }
     ensures board { λ _. ⌜ now (board .exit) ≡ writeWords (now (board .entry)) offset value ⌝ }
 {
-    if board.len() < 35 {
-        return 255;
+    if board.len() < BOARD_WORDS {
+        return 15;
     }
     if !boardwords::board_fits(board) {
         return 15;
@@ -112,11 +120,8 @@ pub extern "C" fn deskboard_read(board: &[u32], offset: u32, report: &mut [u32])
     ensures number { λ r. ⌜ r ≡ numberTold (readCall (now (board .entry)) offset (now (report .entry))) ⌝ }
     ensures report { λ _. ⌜ now (report .exit) ≡ readReport (now (board .entry)) offset (now (report .entry)) ⌝ }
 {
-    if board.len() < 35 {
-        return 255;
-    }
-    if report.len() < 1 {
-        return 255;
+    if board.len() < BOARD_WORDS {
+        return 15;
     }
     if !boardwords::board_fits(board) {
         return 15;
@@ -125,6 +130,10 @@ pub extern "C" fn deskboard_read(board: &[u32], offset: u32, report: &mut [u32])
     let told = b.read(offset);
     match told {
         ReadReport::Byte(value) => {
+            // Room is tested last: a refusal of the read itself comes before it.
+            if report.len() < 1 {
+                return 13;
+            }
             words::lay(report, &[value as u32]);
             0
         }
@@ -137,8 +146,8 @@ pub extern "C" fn deskboard_reset(board: &mut [u32]) -> u32
     ensures number { λ r. ⌜ r ≡ numberTold (resetCall (now (board .entry))) ⌝ }
     ensures board { λ _. ⌜ now (board .exit) ≡ resetWords (now (board .entry)) ⌝ }
 {
-    if board.len() < 35 {
-        return 255;
+    if board.len() < BOARD_WORDS {
+        return 15;
     }
     if !boardwords::board_fits(board) {
         return 15;
@@ -146,6 +155,19 @@ pub extern "C" fn deskboard_reset(board: &mut [u32]) -> u32
     let b = boardwords::board_of(board);
     let cleared = b.reset();
     settle(board, cleared)
+}
+
+// A run whose counts have no room is refused before it begins, since a refused call changes no memory: by its other refusals, then 13.
+fn run_unreported(b: Board, budget: u32) -> u32
+    ensures { λ r. ⌜ r ≡ numberTold (runUnreported b budget) ⌝ }
+{
+    if !b.sound() {
+        return 15;
+    }
+    if Board::BUDGET < budget {
+        return 2;
+    }
+    13
 }
 
 #[no_mangle]
@@ -160,19 +182,19 @@ pub extern "C" fn deskboard_run(
     ensures memory { λ _. ⌜ now (mem .exit) ≡ runBytes (now (board .entry)) (now (mem .entry)) budget (now (report .entry)) ⌝ }
     ensures report { λ _. ⌜ now (report .exit) ≡ runReport (now (board .entry)) (now (mem .entry)) budget (now (report .entry)) ⌝ }
 {
-    if board.len() < 35 {
-        return 255;
-    }
-    if report.len() < 2 {
-        return 255;
-    }
     if !vram::good_length(mem.len()) {
         return 1;
+    }
+    if board.len() < BOARD_WORDS {
+        return 15;
     }
     if !boardwords::board_fits(board) {
         return 15;
     }
     let b = boardwords::board_of(board);
+    if report.len() < 2 {
+        return run_unreported(b, budget);
+    }
     let ran = b.run(mem, budget);
     settle_run(board, report, ran)
 }
@@ -193,11 +215,11 @@ pub extern "C" fn deskboard_start(board: &[u32], frame: &mut [u32]) -> u32
     ensures number { λ r. ⌜ r ≡ numberTold (startCall (now (board .entry)) (now (frame .entry))) ⌝ }
     ensures frame { λ _. ⌜ now (frame .exit) ≡ startWords (now (board .entry)) (now (frame .entry)) ⌝ }
 {
-    if board.len() < 35 {
-        return 255;
+    if board.len() < BOARD_WORDS {
+        return 15;
     }
-    if frame.len() < 24 {
-        return 255;
+    if frame.len() < FRAME_WORDS {
+        return 15;
     }
     if !boardwords::board_fits(board) {
         return 15;
@@ -219,14 +241,11 @@ pub extern "C" fn deskboard_next_line(frame: &mut [u32], mem: &[u8], settings: &
     ensures frame { λ _. ⌜ now (frame .exit) ≡ lineWords (now (frame .entry)) (now (mem .entry)) (now (settings .entry)) ⌝ }
     ensures settings { λ _. ⌜ now (settings .exit) ≡ lineSettings (now (frame .entry)) (now (mem .entry)) (now (settings .entry)) ⌝ }
 {
-    if frame.len() < 24 {
-        return 255;
-    }
-    if settings.len() < 19 {
-        return 255;
-    }
     if !vram::good_length(mem.len()) {
         return 1;
+    }
+    if frame.len() < FRAME_WORDS {
+        return 15;
     }
     if !framewords::frame_fits(frame) {
         return 15;
@@ -236,11 +255,36 @@ pub extern "C" fn deskboard_next_line(frame: &mut [u32], mem: &[u8], settings: &
     let told = next.report;
     match told {
         LineReport::Line(s) => {
+            // Before either buffer is written, since a refused call changes nothing.
+            if settings.len() < SETTINGS_WORDS {
+                return 13;
+            }
             framewords::put_frame(frame, next.frame);
             framewords::put_settings(settings, s);
             0
         }
         LineReport::Refused(why) => why.number() as u32,
+    }
+}
+
+// A plan's refusal with its item, which is at most 240: the low byte of the answer is the number.
+fn with_item(why: Refusal, item: u32) -> u32
+    requires { ⌜ item ≤ 240 ⌝ }
+    ensures { λ r. ⌜ r ≡ numberOf why + 256 * item ⌝ }
+{
+    why.number() as u32 + 256 * item
+}
+
+// A plan whose count has no room is compiled into no room at all: its other refusals come as always, and a plan that has none is refused 13.
+// No list is empty, so none is done.
+fn compile_unreported(plan: &[u8]) -> u32
+    ensures { λ r. ⌜ r ≡ numberTold (compileAnswer (now (plan .entry)) 0) ⌝ }
+{
+    let mut none: [u8; 0] = [];
+    let told = plan::compile(plan, &mut none);
+    match told {
+        Compiled::Done(_) => 13,
+        Compiled::Refused(why, item) => with_item(why, item),
     }
 }
 
@@ -251,7 +295,7 @@ pub extern "C" fn deskboard_compile(plan: &[u8], out: &mut [u8], report: &mut [u
     ensures report { λ _. ⌜ now (report .exit) ≡ compileReport (now (plan .entry)) (length (now (out .entry))) (now (report .entry)) ⌝ }
 {
     if report.len() < 1 {
-        return 255;
+        return compile_unreported(plan);
     }
     let told = plan::compile(plan, out);
     match told {
@@ -260,10 +304,7 @@ pub extern "C" fn deskboard_compile(plan: &[u8], out: &mut [u8], report: &mut [u
             words::lay(report, &[count]);
             0
         }
-        Compiled::Refused(why, item) => {
-            words::lay(report, &[item]);
-            why.number() as u32
-        }
+        Compiled::Refused(why, item) => with_item(why, item),
     }
 }
 

@@ -10,7 +10,7 @@ use Rattle.settings.specs.declared.Settings.{Settings}
 use Rattle.frame.specs.declared.Frame.{Frame}
 use Rattle.words.specs.Words.{wordAt, byteIn, halfIn, within, laid, aByte, aHalf}
 use Rattle.words.proofs.Within.{byte-kept, half-kept, switch-kept, within-front}
-use Rattle.framewords.specs.Frame.{overlayOf, mapOf, lookOf, settingsOf, settingsWords, settingsMost, settingsFits, frameOf, placeWords, frameWords, frameMost, frameFits}
+use Rattle.framewords.specs.Frame.{settingsSize, frameSize, overlayOf, mapOf, lookOf, settingsOf, settingsWords, settingsMost, settingsFits, frameOf, placeWords, frameWords, frameMost, frameFits}
 
 -- in front of any words
 module _ (s : Settings) (rest : List ℕ) (fits : settingsFits (settingsWords s ++ rest) ≡ true) where
@@ -18,8 +18,8 @@ module _ (s : Settings) (rest : List ℕ) (fits : settingsFits (settingsWords s 
   unfolding settingsOf overlayOf mapOf lookOf settingsWords settingsMost
   settings-back =
       let words : List ℕ = settingsWords s ++ rest in
-      let byte : ((k : ℕ) → k < 19 → getD settingsMost k 0 ≡ aByte → byteIn words k ≡ wordAt words k) = byte-kept settingsMost words fits in
-      let half : ((k : ℕ) → k < 19 → getD settingsMost k 0 ≡ aHalf → halfIn words k ≡ wordAt words k) = half-kept settingsMost words fits in
+      let byte : ((k : ℕ) → k < settingsSize → getD settingsMost k 0 ≡ aByte → byteIn words k ≡ wordAt words k) = byte-kept settingsMost words fits in
+      let half : ((k : ℕ) → k < settingsSize → getD settingsMost k 0 ≡ aHalf → halfIn words k ≡ wordAt words k) = half-kept settingsMost words fits in
       λ i.
       record {
         overlay = record {
@@ -54,12 +54,12 @@ unfolding settingsWords settingsMost within
 settings-rest s rest fits = fits
 
 pub settings-crosses :
-    (s : Settings) (words : List ℕ) → 19 ≤ length words → settingsFits (settingsWords s) ≡ true
+    (s : Settings) (words : List ℕ) → settingsSize ≤ length words → settingsFits (settingsWords s) ≡ true
     → (settingsFits (laid (settingsWords s) words) ≡ true) × (settingsOf (laid (settingsWords s) words) ≡ s)
 unfolding settingsWords
 settings-crosses s words room fits =
-    let front = settings-rest s (drop 19 words) fits in
-    simp (le-leb 19 (length words) room) (front, settings-back s (drop 19 words) front)
+    let front = settings-rest s (drop settingsSize words) fits in
+    simp (le-leb settingsSize (length words) room) (front, settings-back s (drop settingsSize words) front)
 
 -- a frame's words behind those of its settings
 module _ (f : Frame) (rest : List ℕ) (fits : frameFits (frameWords f ++ rest) ≡ true) where
@@ -89,9 +89,9 @@ unfolding frameWords settingsWords frameMost settingsMost within
 frame-rest f rest fits = fits
 
 pub frame-crosses :
-    (f : Frame) (words : List ℕ) → 24 ≤ length words → frameFits (frameWords f) ≡ true
+    (f : Frame) (words : List ℕ) → frameSize ≤ length words → frameFits (frameWords f) ≡ true
     → (frameFits (laid (frameWords f) words) ≡ true) × (frameOf (laid (frameWords f) words) ≡ f)
 unfolding frameWords settingsWords
 frame-crosses f words room fits =
-    let front = frame-rest f (drop 24 words) fits in
-    simp (le-leb 24 (length words) room) (front, frame-back f (drop 24 words) front)
+    let front = frame-rest f (drop frameSize words) fits in
+    simp (le-leb frameSize (length words) room) (front, frame-back f (drop frameSize words) front)

@@ -1,4 +1,4 @@
--- include/deskboard.h: "The settings of a line are 19 words", "A frame is 24 words".
+-- include/deskboard.h: a line's settings and a frame as words, and back.
 use mathlib.Core.Bool.{Bool}
 use mathlib.Core.List.{List, [], _∷_, _++_}
 use Prim.Native.Nat.{ℕ}
@@ -8,6 +8,13 @@ use Rattle.settings.specs.declared.Look.{Look}
 use Rattle.settings.specs.declared.Settings.{Settings}
 use Rattle.frame.specs.declared.Frame.{Frame}
 use Rattle.words.specs.Words.{wordAt, byteIn, halfIn, switchIn, switchWord, aByte, aHalf, aWord, within}
+
+-- "The settings of a line are 19 words", "A frame is 24 words"
+abbrev pub settingsSize : ℕ
+settingsSize = 19
+
+abbrev pub frameSize : ℕ
+frameSize = 24
 
 -- "0 mode, 1 overlay address, 2 overlay step, 3 hscroll, 4 vscroll, 5 font, 6 text counter"
 unfoldable pub overlayOf : List ℕ → Overlay

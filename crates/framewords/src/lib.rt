@@ -14,6 +14,11 @@ use words::lay;
 use words::switch;
 use words::word;
 
+// The words of a line's settings, and of a frame.
+pub const SETTINGS_WORDS: usize = 19;
+
+pub const FRAME_WORDS: usize = 24;
+
 fn overlay_of(words: &[u32]) -> Overlay
     ensures { λ r. ⌜ r ≡ overlayOf (now (words .entry)) ⌝ }
 {
@@ -153,9 +158,9 @@ pub fn put_frame(words: &mut [u32], frame: Frame)
         frame.ended as u32,
         frame.on as u32,
     ];
-    if words.len() < 24 {
+    if words.len() < FRAME_WORDS {
         return;
     }
     put_settings(words, frame.settings);
-    lay(&mut words[19..], &five);
+    lay(&mut words[SETTINGS_WORDS..], &five);
 }

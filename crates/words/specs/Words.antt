@@ -38,6 +38,6 @@ unfoldable pub within : List ℕ → List ℕ → ℕ → Bool
 within [] words k = true
 within (most ∷ more) words k = leb (wordAt words k) most && within more words (k + 1)
 
--- a state's words laid over what is lent: "Words past the last stay as they are". Where there is no room nothing is written
+-- a state's words laid over what is lent: "words past the last stay as they are". Where there is no room nothing is written
 abbrev pub laid : List ℕ → List ℕ → List ℕ
 laid new old = cond (leb (length new) (length old)) (new ++ drop (length new) old) old

@@ -4,6 +4,19 @@ use std::ops::DerefMut;
 /// The most ticks one run may be asked for.
 pub const MAX_BUDGET: u32 = 1_000_000;
 
+/// The ticks that a run may take, at most [`MAX_BUDGET`].
+#[derive(Clone, Copy, Debug, PartialEq, Eq)]
+pub struct Budget(u32);
+
+impl Budget {
+    pub fn new(ticks: u32) -> Result<Budget, Refusal> {
+        if ticks > MAX_BUDGET {
+            return Err(Refusal::Budget);
+        }
+        Ok(Budget(ticks))
+    }
+}
+
 /// What the blitter is at.
 #[derive(Clone, Copy, Debug, Default, PartialEq, Eq)]
 #[allow(clippy::large_enum_variant)]
@@ -91,21 +104,11 @@ impl Board {
     where
         B: DerefMut<Target = [u8]>,
     {
-        self.go(video, 1)
+        self.run(video, Budget(1))
     }
 
     /// Ticks until the budget is used or the blitter is idle.
-    pub fn run<B>(&mut self, video: &mut Video<B>, budget: u32) -> Result<Report, Refusal>
-    where
-        B: DerefMut<Target = [u8]>,
-    {
-        if budget > MAX_BUDGET {
-            return Err(Refusal::Budget);
-        }
-        Ok(self.go(video, budget))
-    }
-
-    fn go<B>(&mut self, video: &mut Video<B>, budget: u32) -> Report
+    pub fn run<B>(&mut self, video: &mut Video<B>, Budget(budget): Budget) -> Report
     where
         B: DerefMut<Target = [u8]>,
     {

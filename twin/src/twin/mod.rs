@@ -11,9 +11,9 @@ mod video;
 mod words;
 
 pub use blitter::{Block, Job, Report, BLOCK_BYTES};
-pub use board::{Board, Phase, MAX_BUDGET};
+pub use board::{Board, Budget, Phase, MAX_BUDGET};
 pub use frame::{Frame, Mode, Settings, LINES};
-pub use plan::{compile, install, meaning, xdl, Item, MAX_INSTALL, MAX_XDL};
+pub use plan::{install, meaning, xdl, Item, MAX_INSTALL, MAX_XDL};
 pub use refusal::{Refusal, Refused};
 pub use video::{Video, ADDRESSES, ADDRESS_MASK};
 pub use words::Twin;

@@ -183,7 +183,7 @@ struct Items<'a> {
 impl<'a> Items<'a> {
     fn of(plan: &'a [u8]) -> Result<Items<'a>, Refused> {
         if plan.is_empty() {
-            return Err(Refusal::NoBand.of_plan());
+            return Err(Refusal::NoBand.into());
         }
         Ok(Items {
             rest: plan,
@@ -256,18 +256,9 @@ pub fn xdl(plan: &[u8]) -> Result<Vec<u8>, Refused> {
     let [_, end] = END.to_le_bytes();
     xdl[last + 1] |= end;
     if xdl.len() > MAX_XDL {
-        return Err(Refusal::Long.of_plan());
+        return Err(Refusal::Long.into());
     }
     Ok(xdl)
-}
-
-/// Compiles a plan into the front of `out`; the number of bytes written there.
-pub fn compile(plan: &[u8], out: &mut [u8]) -> Result<usize, Refused> {
-    let xdl = xdl(plan)?;
-    out.get_mut(..xdl.len())
-        .ok_or(Refusal::Room.of_plan())?
-        .copy_from_slice(&xdl);
-    Ok(xdl.len())
 }
 
 /// Writes bytes into video memory.

@@ -24,11 +24,6 @@ impl Refusal {
         self as u32
     }
 
-    /// The refusal of a whole plan, which comes with item 0.
-    pub fn of_plan(self) -> Refused {
-        self.at(0)
-    }
-
     /// The refusal of one item of a plan.
     pub fn at(self, item: u32) -> Refused {
         Refused {
@@ -38,9 +33,23 @@ impl Refusal {
     }
 }
 
-/// A refused plan: why, and at which item.
+/// A refused call: why, and at which item of a plan.
 #[derive(Clone, Copy, Debug, PartialEq, Eq)]
 pub struct Refused {
     pub refusal: Refusal,
     pub item: u32,
+}
+
+impl From<Refusal> for Refused {
+    /// A refusal of no single item comes with item 0.
+    fn from(refusal: Refusal) -> Refused {
+        refusal.at(0)
+    }
+}
+
+impl Refused {
+    /// The number that a call answers with.
+    pub fn answer(self) -> u32 {
+        self.refusal.number() + 256 * self.item
+    }
 }

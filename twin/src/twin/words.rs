@@ -1,10 +1,10 @@
 //! States as the words of `deskboard.h`, and the calls over them.
 
 use super::{
-    Block, Board, Frame, Job, Mode, Phase, Refusal, Report, Settings, Video, ADDRESSES,
-    BLOCK_BYTES, LINES,
+    Block, Board, Budget, Frame, Job, Mode, Phase, Refusal, Refused, Report, Settings, Video,
+    ADDRESSES, BLOCK_BYTES, LINES,
 };
-use crate::card::{Card, BOARD_WORDS, FRAME_WORDS, SETTINGS_WORDS, SHORT};
+use crate::card::{Card, BOARD_WORDS, FRAME_WORDS, SETTINGS_WORDS};
 
 #[inline]
 fn byte(word: u32) -> Result<u8, Refusal> {
@@ -204,28 +204,22 @@ fn split_frame(words: &[u32; FRAME_WORDS]) -> (&[u32; SETTINGS_WORDS], &[u32; 5]
         .expect("24 words are 19 and 5")
 }
 
-/// An answer that is not 0.
-struct No(u32);
-
-impl From<Refusal> for No {
-    fn from(refusal: Refusal) -> No {
-        No(refusal.number())
-    }
+/// The words of a state. A state that is cut short is as unsound as one with a wrong word.
+fn state<const N: usize>(words: &[u32]) -> Result<&[u32; N], Refusal> {
+    words.first_chunk().ok_or(Refusal::State)
 }
 
-fn lent<const N: usize>(words: &[u32]) -> Result<&[u32; N], No> {
-    words.first_chunk().ok_or(No(SHORT))
+fn state_mut<const N: usize>(words: &mut [u32]) -> Result<&mut [u32; N], Refusal> {
+    words.first_chunk_mut().ok_or(Refusal::State)
 }
 
-fn lent_mut<const N: usize>(words: &mut [u32]) -> Result<&mut [u32; N], No> {
-    words.first_chunk_mut().ok_or(No(SHORT))
+/// The words that a report goes to. Room is asked for when all else is known to be good.
+fn room<const N: usize>(words: &mut [u32]) -> Result<&mut [u32; N], Refusal> {
+    words.first_chunk_mut().ok_or(Refusal::Room)
 }
 
-fn answer(call: impl FnOnce() -> Result<(), No>) -> u32 {
-    match call() {
-        Ok(()) => 0,
-        Err(No(number)) => number,
-    }
+fn answer(call: impl FnOnce() -> Result<(), Refused>) -> u32 {
+    call().map_or_else(Refused::answer, |()| 0)
 }
 
 impl Report {
@@ -243,14 +237,14 @@ impl Card for Twin {
 
     fn new_board(board: &mut [u32]) -> u32 {
         answer(|| {
-            *lent_mut(board)? = Board::new().to_words();
+            *state_mut(board)? = Board::new().to_words();
             Ok(())
         })
     }
 
     fn write(board: &mut [u32], offset: u32, value: u8) -> u32 {
         answer(|| {
-            let words = lent_mut(board)?;
+            let words = state_mut(board)?;
             let mut board = Board::from_words(words)?;
             board.write(offset, value)?;
             *words = board.to_words();
@@ -260,16 +254,15 @@ impl Card for Twin {
 
     fn read(board: &[u32], offset: u32, report: &mut [u32]) -> u32 {
         answer(|| {
-            let words = lent(board)?;
-            let report = lent_mut(report)?;
-            *report = [Board::from_words(words)?.read(offset)?.into()];
+            let value = Board::from_words(state(board)?)?.read(offset)?;
+            *room(report)? = [value.into()];
             Ok(())
         })
     }
 
     fn reset(board: &mut [u32]) -> u32 {
         answer(|| {
-            let words = lent_mut(board)?;
+            let words = state_mut(board)?;
             let mut board = Board::from_words(words)?;
             board.reset();
             *words = board.to_words();
@@ -279,10 +272,10 @@ impl Card for Twin {
 
     fn tick(board: &mut [u32], mem: &mut [u8], report: &mut [u32]) -> u32 {
         answer(|| {
-            let words = lent_mut(board)?;
-            let report = lent_mut(report)?;
             let mut video = Video::new(mem)?;
+            let words = state_mut(board)?;
             let mut board = Board::from_words(words)?;
+            let report = room(report)?;
             *report = board.tick(&mut video).to_words();
             *words = board.to_words();
             Ok(())
@@ -291,11 +284,12 @@ impl Card for Twin {
 
     fn run(board: &mut [u32], mem: &mut [u8], budget: u32, report: &mut [u32]) -> u32 {
         answer(|| {
-            let words = lent_mut(board)?;
-            let report = lent_mut(report)?;
             let mut video = Video::new(mem)?;
+            let words = state_mut(board)?;
             let mut board = Board::from_words(words)?;
-            *report = board.run(&mut video, budget)?.to_words();
+            let budget = Budget::new(budget)?;
+            let report = room(report)?;
+            *report = board.run(&mut video, budget).to_words();
             *words = board.to_words();
             Ok(())
         })
@@ -303,20 +297,19 @@ impl Card for Twin {
 
     fn start(board: &[u32], frame: &mut [u32]) -> u32 {
         answer(|| {
-            let words = lent(board)?;
-            let frame = lent_mut(frame)?;
-            *frame = Board::from_words(words)?.start_frame().to_words();
+            let started = Board::from_words(state(board)?)?.start_frame();
+            *state_mut(frame)? = started.to_words();
             Ok(())
         })
     }
 
     fn next_line(frame: &mut [u32], mem: &[u8], settings: &mut [u32]) -> u32 {
         answer(|| {
-            let words = lent_mut(frame)?;
-            let settings = lent_mut(settings)?;
             let video = Video::new(mem)?;
+            let words = state_mut(frame)?;
             let mut frame = Frame::from_words(words)?;
-            *settings = frame.next_line(&video)?.to_words();
+            let line = frame.next_line(&video)?;
+            *room(settings)? = line.to_words();
             *words = frame.to_words();
             Ok(())
         })
@@ -324,17 +317,11 @@ impl Card for Twin {
 
     fn compile(plan: &[u8], out: &mut [u8], report: &mut [u32]) -> u32 {
         answer(|| {
-            let [report] = lent_mut(report)?;
-            match super::compile(plan, out) {
-                Ok(length) => {
-                    *report = length as u32;
-                    Ok(())
-                }
-                Err(refused) => {
-                    *report = refused.item;
-                    Err(refused.refusal.into())
-                }
-            }
+            let xdl = super::xdl(plan)?;
+            let out = out.get_mut(..xdl.len()).ok_or(Refusal::Room)?;
+            *room(report)? = [xdl.len() as u32];
+            out.copy_from_slice(&xdl);
+            Ok(())
         })
     }
 

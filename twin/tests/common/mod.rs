@@ -460,7 +460,7 @@ pub fn compile<C: Card>(plan: &[u8]) -> Result<Vec<u8>, (u32, u32)> {
     Ok(out)
 }
 
-/// The number of bytes, or the refusal's number and item. A refusal leaves the output, a plan taken leaves its tail.
+/// The number of bytes, or the refusal's number and item. A refusal writes nothing, a plan taken leaves the output's tail.
 pub fn compile_into<C: Card>(plan: &[u8], out: &mut [u8]) -> Result<u32, (u32, u32)> {
     let before = out.to_vec();
     let mut report = [999];
@@ -470,9 +470,9 @@ pub fn compile_into<C: Card>(plan: &[u8], out: &mut [u8]) -> Result<u32, (u32, u
             assert_eq!(out[length..], before[length..]);
             Ok(report[0])
         }
-        number => {
-            assert_eq!(out, before);
-            Err((number, report[0]))
+        answer => {
+            assert_eq!((&*out, report), (&*before, [999]));
+            Err((answer & 255, answer >> 8))
         }
     }
 }

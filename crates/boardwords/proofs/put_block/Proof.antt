@@ -74,8 +74,10 @@ same-length c = search needs
 
 returns-2 : tie.Need-returns-2
 returns-2 c =
-    let b = c .before .before .before .before .before .before .before .before .before .before .before .before .before .before .before .before .before .before .before .before .before .before .before .before .args .block in
-    laid-three (sideWords (b .source)) (sideWords (b .dest)) (shapeWords b) (c .before .before .before .before .before .before .before .before .before .before .before .before .before .before .before .before .before .before .before .before .before .before .before .before .args .words .now) _ _ _ _ (c .before .before .before .before .before .before .before .before .before .before .before .before .before .if1 .left) (c .before .before .before .before .before .before .before .before .before .before .before .put-side .ensures) (c .before .before .before .before .before .before .before .put-side2 .ensures) refl (c .before .before .lay .ensures)
+    let p = c .before .before .before .before .before .before .before in
+    let a = p .before .before .before .before .before .before .before .before .before .before .before .before .before .before .before .before .before .args in
+    let b = a .block in
+    laid-three (sideWords (b .source)) (sideWords (b .dest)) (shapeWords b) (a .words .now) _ _ _ _ (p .before .before .before .before .before .before .if1 .left) (p .before .before .before .before .put-side .ensures) (p .put-side2 .ensures) refl (c .before .before .lay .ensures)
 
 pub put-block-spec : {M : Type 1} → statement M
 put-block-spec =

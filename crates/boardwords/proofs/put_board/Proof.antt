@@ -85,8 +85,11 @@ same-length c = search needs
 returns-2 : tie.Need-returns-2
 unfolding boardWords
 returns-2 c =
-    let b = c .before .before .before .before .before .before .before .before .before .before .before .before .before .before .before .before .before .before .before .before .before .before .before .before .before .before .before .before .before .args .board in
-    laid-three (registerWords b) (blockWords (b .blitter .block)) (positionWords b) (c .before .before .before .before .before .before .before .before .before .before .before .before .before .before .before .before .before .before .before .before .before .before .before .before .before .before .before .before .before .args .words .now) _ _ _ _ (c .before .before .before .before .before .before .before .before .before .before .before .before .before .before .if1 .left) (simp bool-byte at (c .before .before .before .before .before .before .before .before .before .before .before .lay .ensures)) (c .before .before .before .before .before .before .before .put-block .ensures) refl (c .before .before .lay2 .ensures)
+    let p = c .before .before .before .before .before .before .before in
+    let a = p .before .before .before .before .before .before .before .before .before .before .before .before .before .before .before .before .before .before .before .before .before .before .args in
+    let b = a .board in
+    let front = simp bool-byte at (p .before .before .before .before .lay .ensures) in
+    laid-three (registerWords b) (blockWords (b .blitter .block)) (positionWords b) (a .words .now) _ _ _ _ (p .before .before .before .before .before .before .before .if1 .left) front (p .put-block .ensures) refl (c .before .before .lay2 .ensures)
 
 pub put-board-spec : {M : Type 1} → statement M
 put-board-spec =

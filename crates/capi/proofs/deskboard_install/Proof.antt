@@ -2,6 +2,7 @@
 use mathlib.Core.Path.{sym, ap, _∙_}
 use Rattle.refusal.specs.Sheet.{outcomeTold}
 use Rattle.capi.specs.Calls.{numberTold}
+use Rattle.capi.proofs.Told.{alone}
 use borrow.Author.Needs.{needs}
 use Rattle.capi.proofs.deskboard_install.Statement.{statement}
 use Rattle.capi.proofs.deskboard_install.Tie as tie
@@ -31,7 +32,7 @@ same-length-2 : tie.Need-same-length-2
 same-length-2 c = c .before .before .before .before .before .mem .given
 
 returns-2 : tie.Need-returns-2
-returns-2 c = (c .number .ensures ∙ ap numberTold (ap outcomeTold (sym (c .before .before .told .given .1)) ∙ c .before .before .before .before .before .before .install .ensures .0), c .before .before .before .before .before .before .install .ensures .1)
+returns-2 c = (c .number .ensures ∙ alone _ ∙ ap numberTold (ap outcomeTold (sym (c .before .before .told .given .1)) ∙ c .before .before .before .before .before .before .install .ensures .0), c .before .before .before .before .before .before .install .ensures .1)
 
 pub deskboard-install-spec : {M : Type 1} → statement M
 deskboard-install-spec =

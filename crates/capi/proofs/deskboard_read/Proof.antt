@@ -3,7 +3,7 @@ use mathlib.Core.Path.{refl, sym, ap, _∙_}
 use borrow.Author.Tests.{lt-leb, le-leb, not-true, not-false}
 use Rattle.board.specs.Board.{readTold}
 use Rattle.capi.specs.Calls.{readCall}
-use Rattle.capi.proofs.Told.{no-number, no-report, done-number, done-report}
+use Rattle.capi.proofs.Told.{alone, no-number, no-report, done-number, done-report, roomy, short}
 use Rattle.capi.proofs.Passed.{read-passed}
 use borrow.Author.Needs.{needs}
 use Rattle.capi.proofs.deskboard_read.Statement.{statement}
@@ -13,16 +13,12 @@ returns : tie.Need-returns
 unfolding readCall
 returns c = simp (lt-leb _ _ (c .if1 .taken)) (refl, refl)
 
-returns-2 : tie.Need-returns-2
-unfolding readCall
-returns-2 c = simp (le-leb _ _ (c .before .if1 .left), lt-leb _ _ (c .if2 .taken)) (refl, refl)
-
 board-fits-requires : tie.Need-board-fits-requires
 board-fits-requires c κs = tt
 
-returns-3 : tie.Need-returns-3
+returns-2 : tie.Need-returns-2
 unfolding readCall
-returns-3 c = simp (le-leb _ _ (c .before .before .before .if1 .left), le-leb _ _ (c .before .before .if2 .left), sym (c .before .board-fits .ensures) ∙ not-true _ (c .if3 .taken)) (refl, refl)
+returns-2 c = simp (le-leb _ _ (c .before .before .if1 .left), sym (c .before .board-fits .ensures) ∙ not-true _ (c .if2 .taken)) (refl, refl)
 
 board-of-requires : tie.Need-board-of-requires
 board-of-requires c κs = tt
@@ -33,8 +29,17 @@ read-requires c κs = tt
 enum-known-told : tie.Need-enum-known-told
 enum-known-told c = search needs
 
-cast-t16 : tie.Need-cast-t16
-cast-t16 c = search needs
+returns-3 : tie.Need-returns-3
+returns-3 c =
+    let b = c .before .before .before .before .before in
+    let t = c .before .before in
+    let fits = sym (b .before .before .board-fits .ensures) ∙ not-false _ (b .before .if2 .left) in
+    let p = read-passed _ _ (b .before .before .before .if1 .left) fits (b .board-of .ensures) _ _ _ (sym (ap readTold (t .told .given .1)) ∙ t .before .before .read .ensures) in
+    let e = p ∙ short 1 (t .before .before .before .before .before .before .before .before .before .args .report .now) (c .if3 .taken) _ in
+    (no-number _ _ _ e _ refl, no-report _ _ _ e _ _)
+
+cast-t18 : tie.Need-cast-t18
+cast-t18 c = search needs
 
 slice-aggregate-lay : tie.Need-slice-aggregate-lay
 slice-aggregate-lay c = search needs
@@ -52,30 +57,37 @@ cast-result : tie.Need-cast-result
 cast-result c = search needs
 
 same-length : tie.Need-same-length
-same-length c = c .before .report .given
+same-length c = search needs
 
 returns-4 : tie.Need-returns-4
 returns-4 c =
-    let e = read-passed _ _ (c .before .before .before .before .before .before .before .before .before .before .before .before .before .if1 .left) (sym (c .before .before .before .before .before .before .before .before .before .before .before .board-fits .ensures) ∙ not-false _ (c .before .before .before .before .before .before .before .before .before .before .if3 .left)) (c .before .before .before .before .before .before .before .before .before .board-of .ensures) _ _ (c .before .before .before .before .before .before .before .before .before .before .before .before .if2 .left) _ (c .before .before .before .before .before .before .before .before .read .ensures) ∙ ap readTold (c .before .before .before .before .before .before .told .given .1) in
+    let b = c .before .before .before .before .before .before .before .before .before .before in
+    let t = c .before .before .before .before .before .before .before in
+    let fits = sym (b .before .before .board-fits .ensures) ∙ not-false _ (b .before .if2 .left) in
+    let p = read-passed _ _ (b .before .before .before .if1 .left) fits (b .board-of .ensures) _ _ _ (sym (ap readTold (t .told .given .1)) ∙ t .before .before .read .ensures) in
+    let e = p ∙ roomy 1 (t .before .before .before .before .before .before .before .before .before .args .report .now) _ (c .before .before .before .before .before .if3 .left) in
     (done-number _ _ e, done-report _ _ e _ _ _ (c .before .before .lay .ensures))
 
 returns-5 : tie.Need-returns-5
 returns-5 c =
-    let e = read-passed _ _ (c .before .before .before .before .before .before .before .before .before .if1 .left) (sym (c .before .before .before .before .before .before .before .board-fits .ensures) ∙ not-false _ (c .before .before .before .before .before .before .if3 .left)) (c .before .before .before .before .before .board-of .ensures) _ _ (c .before .before .before .before .before .before .before .before .if2 .left) _ (c .before .before .before .before .read .ensures) ∙ ap readTold (c .before .before .told2 .given .1) in
-    (c .number .ensures ∙ no-number _ _ _ e, no-report _ _ _ e _ _)
+    let b = c .before .before .before .before .before in
+    let t = c .before .before in
+    let fits = sym (b .before .before .board-fits .ensures) ∙ not-false _ (b .before .if2 .left) in
+    let p = read-passed _ _ (b .before .before .before .if1 .left) fits (b .board-of .ensures) _ _ _ (sym (ap readTold (t .told2 .given .1)) ∙ t .before .before .read .ensures) in
+    (no-number _ _ _ p _ (c .number .ensures ∙ alone _), no-report _ _ _ p _ _)
 
 pub deskboard-read-spec : {M : Type 1} → statement M
 deskboard-read-spec =
     tie.close
     (tie.spec
     returns
-    returns-2
     board-fits-requires
-    returns-3
+    returns-2
     board-of-requires
     read-requires
     enum-known-told
-    cast-t16
+    returns-3
+    cast-t18
     slice-aggregate-lay
     lay-requires
     enum-known-told-2

@@ -3,7 +3,7 @@ use mathlib.Core.Path.{refl, sym, ap, _∙_}
 use borrow.Author.Tests.{lt-leb, le-leb, not-true, not-false}
 use Rattle.frame.specs.Frame.{startTold}
 use Rattle.capi.specs.Calls.{startCall}
-use Rattle.capi.proofs.Told.{no-number, no-report, done-number, done-report}
+use Rattle.capi.proofs.Told.{alone, no-number, no-report, done-number, done-report}
 use Rattle.capi.proofs.Passed.{start-passed}
 use borrow.Author.Needs.{needs}
 use Rattle.capi.proofs.deskboard_start.Statement.{statement}
@@ -46,17 +46,23 @@ cast-result : tie.Need-cast-result
 cast-result c = search needs
 
 same-length : tie.Need-same-length
-same-length c = c .before .frame .given
+same-length c = search needs
 
 returns-4 : tie.Need-returns-4
 returns-4 c =
-    let e = start-passed _ _ (c .before .before .before .before .before .before .before .before .before .before .before .before .if1 .left) (sym (c .before .before .before .before .before .before .before .before .before .before .board-fits .ensures) ∙ not-false _ (c .before .before .before .before .before .before .before .before .before .if3 .left)) (c .before .before .before .before .before .before .before .before .board-of .ensures) _ (c .before .before .before .before .before .before .before .before .before .before .before .if2 .left) _ (c .before .before .before .before .before .before .before .start .ensures) ∙ ap startTold (c .before .before .before .before .before .told .given .1) in
+    let b = c .before .before .before .before .before .before .before .before in
+    let t = c .before .before .before .before .before in
+    let fits = sym (b .before .before .board-fits .ensures) ∙ not-false _ (b .before .if3 .left) in
+    let e = start-passed _ _ (b .before .before .before .before .if1 .left) fits (b .board-of .ensures) _ (b .before .before .before .if2 .left) _ (sym (ap startTold (t .told .given .1)) ∙ t .before .before .start .ensures) in
     (done-number _ _ e, done-report _ _ e _ _ _ (c .before .before .put-frame .ensures))
 
 returns-5 : tie.Need-returns-5
 returns-5 c =
-    let e = start-passed _ _ (c .before .before .before .before .before .before .before .before .before .if1 .left) (sym (c .before .before .before .before .before .before .before .board-fits .ensures) ∙ not-false _ (c .before .before .before .before .before .before .if3 .left)) (c .before .before .before .before .before .board-of .ensures) _ (c .before .before .before .before .before .before .before .before .if2 .left) _ (c .before .before .before .before .start .ensures) ∙ ap startTold (c .before .before .told2 .given .1) in
-    (c .number .ensures ∙ no-number _ _ _ e, no-report _ _ _ e _ _)
+    let b = c .before .before .before .before .before in
+    let t = c .before .before in
+    let fits = sym (b .before .before .board-fits .ensures) ∙ not-false _ (b .before .if3 .left) in
+    let e = start-passed _ _ (b .before .before .before .before .if1 .left) fits (b .board-of .ensures) _ (b .before .before .before .if2 .left) _ (sym (ap startTold (t .told2 .given .1)) ∙ t .before .before .start .ensures) in
+    (no-number _ _ _ e _ (c .number .ensures ∙ alone _), no-report _ _ _ e _ _)
 
 pub deskboard-start-spec : {M : Type 1} → statement M
 deskboard-start-spec =

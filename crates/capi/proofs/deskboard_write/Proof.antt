@@ -34,8 +34,11 @@ same-length-2 c = c .before .board .given
 
 returns-3 : tie.Need-returns-3
 returns-3 c =
-    let fits = sym (c .before .before .before .before .before .before .before .before .board-fits .ensures) ∙ not-false _ (c .before .before .before .before .before .before .before .if2 .left) in
-    write-done _ _ (c .before .before .before .before .before .before .before .before .before .before .if1 .left) fits (c .before .before .before .before .before .board-of .ensures) _ _ _ _ (c .before .before .settle .ensures .0) (c .before .before .settle .ensures .1) _ _ (c .before .before .before .before .write .ensures .0) (c .before .before .before .before .write .ensures .1)
+    let b = c .before .before .before .before .before in
+    let fits = sym (b .before .before .before .board-fits .ensures) ∙ not-false _ (b .before .before .if2 .left) in
+    let s = c .before .before .settle .ensures in
+    let r = c .before .before .before .before .write .ensures in
+    write-done _ _ (b .before .before .before .before .before .if1 .left) fits (b .board-of .ensures) _ _ _ _ (s .0) (s .1) _ _ (r .0) (r .1)
 
 pub deskboard-write-spec : {M : Type 1} → statement M
 deskboard-write-spec =

@@ -1,5 +1,6 @@
 -- `capi::settle` meets its contract: by what the call reported. Assumes nothing.
-use mathlib.Core.Path.{refl}
+use mathlib.Core.Path.{refl, _∙_}
+use Rattle.capi.proofs.Told.{alone}
 use borrow.Author.Needs.{needs}
 use Rattle.capi.proofs.settle.Statement.{statement}
 use Rattle.capi.proofs.settle.Tie as tie
@@ -20,13 +21,13 @@ cast-result : tie.Need-cast-result
 cast-result c = search needs
 
 same-length : tie.Need-same-length
-same-length c = c .before .board .given
+same-length c = search needs
 
 returns : tie.Need-returns
 returns c = simp (c .before .before .before .before .enum-told .given .1) (refl, c .before .before .put-board .ensures)
 
 returns-2 : tie.Need-returns-2
-returns-2 c = simp (c .before .before .report .given .1) (c .number .ensures, refl)
+returns-2 c = simp (c .before .before .report .given .1) (c .number .ensures ∙ alone _, refl)
 
 pub settle-spec : {M : Type 1} → statement M
 settle-spec =

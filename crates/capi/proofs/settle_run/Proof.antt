@@ -1,6 +1,7 @@
 -- `capi::settle_run` meets its contract: by what the run reported. Assumes nothing.
-use mathlib.Core.Path.{refl}
+use mathlib.Core.Path.{refl, _∙_}
 use borrow.Author.Needs.{needs}
+use Rattle.capi.proofs.Told.{alone}
 use Rattle.capi.proofs.settle_run.Statement.{statement}
 use Rattle.capi.proofs.settle_run.Tie as tie
 
@@ -35,7 +36,7 @@ returns : tie.Need-returns
 returns c = simp (c .before .before .before .before .before .before .before .before .before .before .told .given .1) (refl, (c .before .before .before .before .before .before .before .put-board .ensures, c .before .before .lay .ensures))
 
 returns-2 : tie.Need-returns-2
-returns-2 c = simp (c .before .before .told2 .given .1) (c .number .ensures, (refl, refl))
+returns-2 c = simp (c .before .before .told2 .given .1) (c .number .ensures ∙ alone _, (refl, refl))
 
 pub settle-run-spec : {M : Type 1} → statement M
 settle-run-spec =

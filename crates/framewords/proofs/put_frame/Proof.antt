@@ -48,8 +48,10 @@ same-length c = search needs
 returns-2 : tie.Need-returns-2
 unfolding frameWords settingsWords
 returns-2 c =
-    let f = c .before .before .before .before .before .before .before .before .before .before .before .before .before .before .before .args .frame in
-    laid-on (settingsWords (f .settings)) (placeWords f) (c .before .before .before .before .before .before .before .before .before .before .before .before .before .before .before .args .words .now) _ _ (c .before .before .before .before .before .before .before .before .before .if1 .left) (c .before .before .before .before .before .before .before .put-settings .ensures) (simp bool-byte at (c .before .before .lay .ensures))
+    let p = c .before .before .before .before .before .before .before in
+    let a = p .before .before .before .before .before .before .before .before .args in
+    let f = a .frame in
+    laid-on (settingsWords (f .settings)) (placeWords f) (a .words .now) _ _ (p .before .before .if1 .left) (p .put-settings .ensures) (simp bool-byte at (c .before .before .lay .ensures))
 
 pub put-frame-spec : {M : Type 1} → statement M
 put-frame-spec =
