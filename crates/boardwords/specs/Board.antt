@@ -13,7 +13,7 @@ use Rattle.words.specs.Words.{wordAt, byteIn, halfIn, switchIn, switchWord, aBy
 abbrev pub boardSize : ℕ
 boardSize = 35
 
--- "0 VIDEO_CONTROL, 1 XDL_ADR, 2 BL_ADR, 3..6 P0..P3"
+-- words 0 to 6: VIDEO_CONTROL, XDL_ADR, BL_ADR, P0 to P3
 unfoldable pub portsOf : List ℕ → Ports
 portsOf words =
     record {
@@ -55,7 +55,7 @@ blockOf words =
       control = byteIn words 32;
     }
 
--- "7 IRQE, 8 IRQF, 9 list address, 10 flags, 11 collision code", the block, "33 row, 34 column"
+-- words 7 to 11: IRQE, IRQF, list address, flags, collision code; then the block; 33 and 34: row and column
 unfoldable pub blitterOf : List ℕ → Blitter
 blitterOf words =
     record {

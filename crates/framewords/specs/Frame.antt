@@ -16,7 +16,7 @@ settingsSize = 19
 abbrev pub frameSize : ℕ
 frameSize = 24
 
--- "0 mode, 1 overlay address, 2 overlay step, 3 hscroll, 4 vscroll, 5 font, 6 text counter"
+-- words 0 to 6: mode, overlay address, overlay step, hscroll, vscroll, font, text counter
 unfoldable pub overlayOf : List ℕ → Overlay
 overlayOf words =
     record {
@@ -29,7 +29,7 @@ overlayOf words =
       counter = byteIn words 6;
     }
 
--- "7 map on, 8 map address, 9 map step, 10 map hscroll, 11 map vscroll, 12 field width, 13 field height, 14 field counter"
+-- words 7 to 14: map on, map address, map step, map hscroll, map vscroll, field width, field height, field counter
 unfoldable pub mapOf : List ℕ → Map
 mapOf words =
     record {
@@ -43,7 +43,7 @@ mapOf words =
       counter = byteIn words 14;
     }
 
--- "15 width, 16 overlay palette, 17 playfield palette, 18 priority"
+-- words 15 to 18: width, overlay palette, playfield palette, priority
 unfoldable pub lookOf : List ℕ → Look
 lookOf words =
     record { width = byteIn words 15; palette = byteIn words 16; playfield = byteIn words 17; priority = byteIn words 18 }
@@ -51,7 +51,7 @@ lookOf words =
 unfoldable pub settingsOf : List ℕ → Settings
 settingsOf words = record { overlay = overlayOf words; map = mapOf words; look = lookOf words }
 
--- "0..18 its settings, 19 list position, 20 repeat, 21 line, 22 ended, 23 on"
+-- words 0 to 18: its settings; 19 to 23: list position, repeat, line, ended, on
 unfoldable pub frameOf : List ℕ → Frame
 frameOf words =
     record {
