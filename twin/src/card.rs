@@ -6,6 +6,7 @@ pub const BOARD_WORDS: usize = 35;
 pub const SETTINGS_WORDS: usize = 19;
 /// The words of a frame.
 pub const FRAME_WORDS: usize = 24;
+
 /// A desk board behind the word interface. Each call answers 0, or a refusal's number plus 256 times its item.
 pub trait Card {
     const NAME: &'static str;

@@ -11,5 +11,6 @@ use Rattle.frame.specs.Frame.{fetched, shown, nextFrame}
 use Rattle.cases.specs.Table.{wrong, table, linesFrom}
 
 pub all-cases : wrong table ≡ []
-unfolding signed stepX stepY wrap19 sideAddress overNibble over valueIn writesIn costIn accessesIn strokeOf hits codeBy codeByte codeNibbles codeIn noSide patternOf sourceAddress advanced advancedOverlay advancedMap off controlled repeatGroup addressGroup scrollGroup fontGroup mapGroup fieldGroup lookGroup restarted fetched shown nextFrame linesFrom ones onesIn
+unfolding signed stepX stepY wrap19 sideAddress overNibble over valueIn writesIn costIn accessesIn strokeOf hits codeBy codeByte codeNibbles codeIn
+    noSide patternOf sourceAddress advanced advancedOverlay advancedMap off controlled repeatGroup addressGroup scrollGroup fontGroup mapGroup fieldGroup lookGroup restarted fetched shown nextFrame linesFrom ones onesIn
 all-cases = refl

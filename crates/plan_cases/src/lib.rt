@@ -33,17 +33,6 @@ fn below() {
     );
 }
 
-fn byte(b: u8) {
-    print::text(b" ");
-    print::hex(b);
-}
-
-fn bytes(out: &[u8]) {
-    for i in 0..out.len() {
-        byte(out[i]);
-    }
-}
-
 // A plan into a lent buffer: what is told, and all that the buffer holds.
 fn compiled(title: &[u8], plan: &[u8], out: &mut [u8]) {
     let told = plan::compile(plan, out);
@@ -59,7 +48,7 @@ fn compiled(title: &[u8], plan: &[u8], out: &mut [u8]) {
         Compiled::Refused(why, item) => print::refused(why, item),
     }
     print::text(b" ");
-    bytes(out);
+    print::bytes(out);
     print::text(b"\n");
 }
 

@@ -23,6 +23,19 @@ pub fn hex(b: u8) {
     io::write_all(1, &two);
 }
 
+// A space, and a byte as two digits.
+fn spaced(b: u8) {
+    text(b" ");
+    hex(b);
+}
+
+// Bytes, a space before each.
+pub fn bytes(s: &[u8]) {
+    for i in 0..s.len() {
+        spaced(s[i]);
+    }
+}
+
 // The 20 low bits of an address, as five digits.
 pub fn address(a: u32) {
     let five = [

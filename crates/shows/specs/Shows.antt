@@ -1,4 +1,6 @@
--- Demand 3: "Every plan that breaks no plan rule, given room, becomes a display list. Put that list at any address of a desk board, point the list register there, switch the list on and start a frame. If memory stays unchanged until the frame ends, each of its 240 lines has exactly the settings the plan means". It is said over what the public calls answer, as their promises define it: compile, install, write, start, next_line.
+-- Demand 3: "Every plan that breaks no plan rule, given room, becomes a display list. Put that list at any address of a desk board, point the list
+-- register there, switch the list on and start a frame. If memory stays unchanged until the frame ends, each of its 240 lines has exactly the settings
+-- the plan means". It is said over what the public calls answer, as their promises define it: compile, install, write, start, next_line.
 use mathlib.Core.Path.{_≡_}
 use mathlib.Core.Bool.{true}
 use mathlib.Core.List.{List}

@@ -35,7 +35,12 @@ cells-requires : tie.Need-cells-requires
 cells-requires c κs = search needs
 
 same-length : tie.Need-same-length
-same-length c = c .before .before .before .mem4 .given ∙ (c .before .before .before .before .before .before .before .before .mem3 .given ∙ (c .before .before .before .before .before .before .before .before .before .before .before .before .before .before .mem2 .given ∙ c .before .before .before .before .before .before .before .before .before .before .before .before .before .before .before .before .before .before .before .mem .given))
+same-length c =
+    let last = c .before .before .before in
+    let first = last .before .before .before .before .before in
+    let laid = first .before .before .before .before .before .before in
+    let begun = laid .before .before .before .before .before in
+    last .mem4 .given ∙ (first .mem3 .given ∙ (laid .mem2 .given ∙ begun .mem .given))
 
 returns : tie.Need-returns
 returns c = search needs

@@ -25,7 +25,9 @@ exact : (c : tie.Else4) → let b = c .before .before .before .before .before .b
 exact c = eq-eqb _ _ (sym (c .before .number-22 .ensures) ∙ (c .if4 .left ∙ sized (c .before .before)))
 
 body : (c : tie.After-body-at) → let b = c .before .before .before .before .before .before .before .before .before .before .args in c .body-at .result ≡ bodyAt (now (b .plan)) (b .at + 4) (number2 (now (b .plan)) (b .at + 2))
-body c = c .body-at .ensures ∙ ap (bodyAt (now (c .before .before .before .before .before .before .before .before .before .before .args .plan)) (c .before .before .before .before .before .before .before .before .before .before .args .at + 4)) (c .before .before .before .before .before .before .number-2 .ensures)
+body c =
+    let b = c .before .before .before .before .before .before .before .before .before .before .args in
+    c .body-at .ensures ∙ ap (bodyAt (now (b .plan)) (b .at + 4)) (c .before .before .before .before .before .before .number-2 .ensures)
 
 returns : tie.Need-returns
 unfolding itemAt

@@ -1,25 +1,25 @@
--- `list_cases::bytes` is safe and ends: the measure is what is left of the list. Assumes nothing.
+-- `print::bytes` is safe and ends: the measure is what is left of the bytes. Assumes nothing.
 use mathlib.Core.Path.{_≡_, refl}
 use Prim.Native.Nat.{_-_}
 use native.Mathlib.Omega.{arith}
 use lib.ListN.{length}
-use Rattle.list_cases.proofs.bytes.Statement.{statement}
-use Rattle.list_cases.proofs.bytes.Tie as tie
+use Rattle.print.proofs.bytes.Statement.{statement}
+use Rattle.print.proofs.bytes.Tie as tie
 
 abbrev Inv-loop : tie.InvT-loop
-Inv-loop list i₀ i-end i = i-end ≡ length list
+Inv-loop s i₀ i-end i = i-end ≡ length s
 
 abbrev μ-loop : tie.MeasureT-loop
-μ-loop list i₀ i-end i = i-end - i
+μ-loop s i₀ i-end i = i-end - i
 
 loop-holds : tie.Need-loop-holds Inv-loop μ-loop
 loop-holds c = refl
 
-shared-slice-read-byte : tie.Need-shared-slice-read-byte Inv-loop μ-loop
-shared-slice-read-byte c = omega arith
+shared-slice-read-spaced : tie.Need-shared-slice-read-spaced Inv-loop μ-loop
+shared-slice-read-spaced c = omega arith
 
-byte-requires : tie.Need-byte-requires Inv-loop μ-loop
-byte-requires c κs = tt
+spaced-requires : tie.Need-spaced-requires Inv-loop μ-loop
+spaced-requires c κs = tt
 
 add-i : tie.Need-add-i Inv-loop μ-loop
 add-i c = omega arith
@@ -40,8 +40,8 @@ bytes-spec =
     Inv-loop
     μ-loop
     loop-holds
-    shared-slice-read-byte
-    byte-requires
+    shared-slice-read-spaced
+    spaced-requires
     add-i
     loop-less
     loop-again
