@@ -8,7 +8,7 @@ ghost use Rattle.vram.specs.Install.{installAnswer, installMemory};
 ghost use Rattle.engine.specs.Run.{runTold};
 ghost use Rattle.plan.specs.Compile.{compileAnswer};
 ghost use Rattle.words.specs.Words.{laid};
-ghost use Rattle.boardwords.specs.Board.{boardWords};
+ghost use Rattle.boardwords.specs.Board.{boardOf, boardWords};
 ghost use Rattle.capi.specs.Calls.{
   numberTold,
   reported,
@@ -158,9 +158,10 @@ pub extern "C" fn deskboard_reset(board: &mut [u32]) -> u32
 }
 
 // A run whose counts have no room is refused before it begins, since a refused call changes no memory: by its other refusals, then 13.
-fn run_unreported(b: Board, budget: u32) -> u32
-    ensures { λ r. ⌜ r ≡ numberTold (runUnreported b budget) ⌝ }
+fn run_unreported(board: &[u32], budget: u32) -> u32
+    ensures { λ r. ⌜ r ≡ numberTold (runUnreported (boardOf (now (board .entry))) budget) ⌝ }
 {
+    let b = boardwords::board_of(board);
     if !b.sound() {
         return 15;
     }
@@ -191,10 +192,10 @@ pub extern "C" fn deskboard_run(
     if !boardwords::board_fits(board) {
         return 15;
     }
-    let b = boardwords::board_of(board);
     if report.len() < 2 {
-        return run_unreported(b, budget);
+        return run_unreported(board, budget);
     }
+    let b = boardwords::board_of(board);
     let ran = b.run(mem, budget);
     settle_run(board, report, ran)
 }

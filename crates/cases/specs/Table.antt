@@ -8,7 +8,6 @@ use lib.IntN.{ℤ, pos, negsuc}
 use lib.ListN.{replicate}
 use Rattle.refusal.specs.Sheet.{Told, done, refused}
 use Rattle.step.specs.Step.{stepY}
-use Rattle.step.specs.declared.Side.{Side}
 use Rattle.mode.specs.Mode.{codeIn, strokeOf}
 use Rattle.mode.specs.declared.Stroke.{Stroke}
 use Rattle.block.specs.Block.{noSide, sourceAddress}
@@ -31,9 +30,9 @@ signedAs (negsuc n) = 1 ∷ (n + 1) ∷ []
 abbrev pub codeFor : ℕ → ℕ → ℕ
 codeFor mask d = codeIn 1 mask 1 d 7
 
--- one byte: 1 where it is written and 0 where not, what is written, and the code after it
-abbrev pub strokeAs : Stroke → List ℕ
-strokeAs k = cond (k .written) 1 0 ∷ k .value ∷ k .code ∷ []
+-- what one byte writes: 1 and its value where it writes, 0 where it does not
+abbrev pub writesAs : Stroke → List ℕ
+writesAs k = cond (k .written) (1 ∷ k .value ∷ []) (0 ∷ [])
 
 -- a block with W = 10 and Q = 4 whose source begins at 0 and steps by 1: its source addresses are its source columns
 abbrev pub patterned : Block
@@ -76,8 +75,8 @@ table =
     ∷ record { says = "step y bytes FF 0F: 4095"; gives = signedAs (stepY 0xFF 0x0F); paper = 0 ∷ 4095 ∷ [] }
     ∷ record { says = "mode 1, s=1, mask 02: d=31 none, 32 gives code 32"; gives = codeFor 0x02 31 ∷ codeFor 0x02 32 ∷ []; paper = 7 ∷ 32 ∷ [] }
     ∷ record { says = "the same with mask 01, d=0: none; d=1 gives 1"; gives = codeFor 0x01 0 ∷ codeFor 0x01 1 ∷ []; paper = 7 ∷ 1 ∷ [] }
-    ∷ record { says = "mode 2, d=200, s=100: 44"; gives = strokeAs (strokeOf 2 0 100 200 7); paper = 1 ∷ 44 ∷ 7 ∷ [] }
-    ∷ record { says = "mode 6, s=50h, d=9Ah, mask 10h, code 0: writes 5Ah, code 90h"; gives = strokeAs (strokeOf 6 0x10 0x50 0x9A 0); paper = 1 ∷ 0x5A ∷ 0x90 ∷ [] }
+    ∷ record { says = "mode 2, d=200, s=100: 44"; gives = writesAs (strokeOf 2 0 100 200 0); paper = 1 ∷ 44 ∷ [] }
+    ∷ record { says = "mode 6, s=50h, d=9Ah, mask 10h, code 0: writes 5Ah, code 90h"; gives = writesAs (strokeOf 6 0x10 0x50 0x9A 0) ++ (codeIn 6 0x10 0x50 0x9A 0 ∷ []); paper = 1 ∷ 0x5A ∷ 0x90 ∷ [] }
     ∷ record { says = "W=10, Q=4: source columns 0 1 2 3 0 1 2 3 0 1"; gives = sourceColumns 10 0; paper = 0 ∷ 1 ∷ 2 ∷ 3 ∷ 0 ∷ 1 ∷ 2 ∷ 3 ∷ 0 ∷ 1 ∷ [] }
     ∷ record { says = "XDL 62 80 02 00 10 00 40 01: SR at 1000h, 1140h, 1280h, then off, address 13C0h"; gives = linesOf 4 (0x62 ∷ 0x80 ∷ 0x02 ∷ 0x00 ∷ 0x10 ∷ 0x00 ∷ 0x40 ∷ 0x01 ∷ []) 16376; paper = 2 ∷ 0x1000 ∷ 2 ∷ 0x1140 ∷ 2 ∷ 0x1280 ∷ 0 ∷ 0x13C0 ∷ [] }
     ∷ record { says = "SR, OVADR 7FFFFh, step 1: next line 0"; gives = linesOf 2 (0x62 ∷ 0x00 ∷ 0x01 ∷ 0xFF ∷ 0xFF ∷ 0x07 ∷ 0x01 ∷ 0x00 ∷ []) 16376; paper = 2 ∷ 0x7FFFF ∷ 2 ∷ 0 ∷ [] }

@@ -1,19 +1,18 @@
 -- What is known of an item that is taken. Assumes nothing.
 use mathlib.Core.Path.{_≡_, refl, sym, ap, _∙_}
-use mathlib.Core.Bool.{Bool, true, false, cond, _||_, or-false}
+use mathlib.Core.Bool.{Bool, true, false, _||_, or-false}
 use mathlib.Core.List.{List}
-use Prim.Native.Nat.{ℕ, _+_, _-_, _≤_, _<_}
+use Prim.Native.Nat.{ℕ, _+_, _-_, _≤_}
 use native.Mathlib.Omega.{arith}
 use lib.Dec.{eqb, ltb, leb}
 use lib.ListN.{length}
 use borrow.Author.Tests.{leb-true, eqb-true}
-use Rattle.laws.proofs.Choice.{by-cond}
 use Rattle.refusal.specs.declared.Refusal.{Refusal}
 use Rattle.refusal.specs.declared.Refusal.the-variants.{PlanCut, Kind, Length, Field, First, Lines}
 use Rattle.item.specs.Item.{number2, soundItem, linesOf, isFull, bodySize, bodyAt, must, fitted, itemAt}
 use Rattle.item.specs.declared.Item.{Item}
 use Rattle.item.specs.declared.Read.{Read}
-use Rattle.item.specs.declared.Read.the-variants.{Is, Bad}
+use Rattle.item.specs.declared.Read.the-variants.{Is}
 
 -- a chain that ends in an item passed its first test
 passed : (t : Bool) (why : Refusal) (rest : Read) (it : Item) (next : ℕ) → must t why rest ≡ Is it next → (t ≡ true) × (rest ≡ Is it next)

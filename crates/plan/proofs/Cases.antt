@@ -4,7 +4,7 @@ use mathlib.Core.List.{List, [], _∷_}
 use Prim.Native.Nat.{ℕ}
 use native.Mathlib.Omega.{arith}
 use lib.ListN.{drop, replicate}
-use Rattle.refusal.specs.Sheet.{Told, done, refused}
+use Rattle.refusal.specs.Sheet.{done, refused}
 use Rattle.settings.specs.Settings.{off}
 use Rattle.settings.specs.Below.{overlayBelow, mapBelow, settingsBelow}
 use Rattle.settings.specs.declared.Settings.{Settings}

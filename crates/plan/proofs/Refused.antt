@@ -1,5 +1,5 @@
 -- What is known where a plan is refused: the number of its item, and that room alone does not change a refusal of the plan itself. Assumes nothing.
-use mathlib.Core.Path.{_≡_, refl, sym, ap, _∙_}
+use mathlib.Core.Path.{_≡_, refl, sym}
 use mathlib.Core.Bool.{Bool, true, false, cond}
 use mathlib.Core.List.{List, [], _∷_}
 use Prim.Native.Nat.{ℕ, zero, suc, _+_, _-_, _≤_, _<_, zero-le}
@@ -8,7 +8,7 @@ use native.Mathlib.Omega.{arith}
 use lib.Dec.{eqb, leb}
 use lib.ListN.{length, length-append}
 use borrow.Author.Tests.{lt-ltb, le-ltb, le-leb, lt-leb}
-use Rattle.refusal.specs.Sheet.{numberOf, Told, done, refused, unless}
+use Rattle.refusal.specs.Sheet.{Told, done, refused, unless}
 use Rattle.refusal.specs.declared.Refusal.{Refusal}
 use Rattle.refusal.specs.declared.Refusal.the-variants.{NoBand}
 use Rattle.item.specs.Item.{linesOf, itemAt}
@@ -22,12 +22,10 @@ use Rattle.plan.specs.Xdl.{isEmpty, recordOf, bytesOf}
 use Rattle.plan.specs.Compile.{compileTold, checkedOf, fitting, compileAnswer}
 use Rattle.plan.proofs.Records.{length-record, size-some}
 use Rattle.plan.proofs.Valid.{starts-full, at-most}
-
-good-bad : {A : Type 0} (l : List Item) (why : Refusal) (k : ℕ) → good l ≡ bad why k → A
-good-bad l why k e = absurd (let z : _≡_ {A = ℕ} 0 1 = cc in omega arith)
+use Rattle.plan.proofs.Walk.{bad-good}
 
 bad-with : (it : Item) (p : Parsed) (why : Refusal) (k : ℕ) → with it p ≡ bad why k → p ≡ bad why k
-bad-with it (good l) why k e = good-bad (it ∷ l) why k e
+bad-with it (good l) why k e = bad-good why k (it ∷ l) (sym e)
 bad-with it (bad w n) why k e = e
 
 -- each item before it has a line, and all have 240 at most
@@ -52,11 +50,11 @@ module _ (s : List ℕ) (why : Refusal) (k : ℕ) where
   unfolding parseFrom
   from-end f at n total ge h l e =
       let z : good [] ≡ bad why k = simp (le-ltb at (length s) ge) at e in
-      good-bad [] why k z
+      bad-good why k [] (sym z)
 
   from-small : (f at n total : ℕ) → Small f at n total
   unfolding parseFrom
-  from-small zero at n total h l e = good-bad [] why k e
+  from-small zero at n total h l e = bad-good why k [] (sym e)
   from-small (suc f) at n total h l e = go (decLt at (length s)) (λ next m t. from-small f next m t) h l e
     where
       go : Dec (at < length s) → ((next m t : ℕ) → Small f next m t) → Small (suc f) at n total

@@ -6,10 +6,10 @@ use mathlib.Core.Logic.{_⊎_, inl, inr, ⊎-elim}
 use Prim.Native.Nat.{ℕ, zero, suc, _+_, _-_, _*_, _/_, _%_, _≤_, _<_, zero-le}
 use native.Mathlib.Nat.{add-assoc, add-zero}
 use native.Mathlib.Omega.{arith}
-use lib.Dec.{eqb, ltb, leb}
+use lib.Dec.{eqb, ltb}
 use lib.ListN.{length, getD, take, drop, length-append, length-drop, take-append-drop, drop-of-length-le}
 use lib.Seq.{getD-drop, drop-drop, drop-cons, drop-at}
-use borrow.Author.Tests.{lt-ltb, le-leb, eqb-true}
+use borrow.Author.Tests.{lt-ltb, le-leb, eq-eqb, eqb-true}
 use Rattle.item.specs.Item.{number2, fullAt, runningAt, soundItem, linesOf, isFull, bodySize, bodyAt, fitted, itemAt}
 use Rattle.item.specs.declared.Full.{Full}
 use Rattle.item.specs.declared.Running.{Running}
@@ -17,7 +17,7 @@ use Rattle.item.specs.declared.Item.{Item}
 use Rattle.item.specs.declared.Item.the-variants.{Full as full, Running as running}
 use Rattle.item.specs.declared.Read.the-variants.{Is}
 use Rattle.item.proofs.Taken.{taken}
-use Rattle.plan.specs.Plan.{good, with, rest, parse}
+use Rattle.plan.specs.Plan.{good, with, rest}
 use Rattle.plan.specs.Rules.{Bytes, fullBytes, runningBytes, itemBytes, planBytes, StartsFull, AllSound, linesIn, RulesSuffice, RulesNeeded}
 use Rattle.plan.proofs.Valid.{all-sound, all-lines, starts-full}
 use Rattle.plan.proofs.Walk.{rest-end, rest-item, uncons, last-is, parse-rest, parse-taken}
@@ -34,6 +34,10 @@ low2 a b p = omega arith
 
 high2 : (a b : ℕ) → a < 256 → b ≡ (a + 256 * b) / 256
 high2 a b p = omega arith
+
+-- of two bytes that say a small number the second is 0
+one-byte : (a b n : ℕ) → a + 256 * b ≡ n → n < 256 → (a ≡ n) × (b ≡ 0)
+one-byte a b n e h = (omega arith, omega arith)
 
 low3 : (a b c : ℕ) → a < 256 → a ≡ (a + 256 * b + 65536 * c) % 256
 low3 a b c p = omega arith
@@ -91,13 +95,11 @@ module _ (xs : List ℕ) where
     full-forth : 27 ≤ length xs → number2 xs 0 ≡ 23 → number2 xs 2 ≡ 1 → take 27 xs ≡ fullBytes (fullAt xs 4)
     unfolding fullBytes fullAt
     full-forth room size kind =
-        let h0 : getD xs 0 0 ≡ 23 = omega (arith, b 0) in
-        let h1 : getD xs 1 0 ≡ 0 = omega (arith, b 0) in
-        let h2 : getD xs 2 0 ≡ 1 = omega (arith, b 2) in
-        let h3 : getD xs 3 0 ≡ 0 = omega (arith, b 2) in
+        let s = one-byte _ _ 23 size (omega arith) in
+        let k = one-byte _ _ 1 kind (omega arith) in
         cells-are 27 0 room
         ∙ (λ i.
-        h0 i ∷ h1 i ∷ h2 i ∷ h3 i
+        s .0 i ∷ s .1 i ∷ k .0 i ∷ k .1 i
         ∷ getD xs 4 0
         ∷ getD xs 5 0
         ∷ low3 (getD xs 6 0) (getD xs 7 0) (getD xs 8 0) (b 6) i
@@ -119,11 +121,9 @@ module _ (xs : List ℕ) where
     running-forth : 11 ≤ length xs → number2 xs 0 ≡ 7 → number2 xs 2 ≡ 2 → take 11 xs ≡ runningBytes (runningAt xs 4)
     unfolding runningBytes runningAt
     running-forth room size kind =
-        let h0 : getD xs 0 0 ≡ 7 = omega (arith, b 0) in
-        let h1 : getD xs 1 0 ≡ 0 = omega (arith, b 0) in
-        let h2 : getD xs 2 0 ≡ 2 = omega (arith, b 2) in
-        let h3 : getD xs 3 0 ≡ 0 = omega (arith, b 2) in
-        cells-are 11 0 room ∙ (λ i. h0 i ∷ h1 i ∷ h2 i ∷ h3 i ∷ cells 4 7)
+        let s = one-byte _ _ 7 size (omega arith) in
+        let k = one-byte _ _ 2 kind (omega arith) in
+        cells-are 11 0 room ∙ (λ i. s .0 i ∷ s .1 i ∷ k .0 i ∷ k .1 i ∷ cells 4 7)
 
     body-forth :
         (k : ℕ) → number2 xs 2 ≡ k → (eqb k 1 || eqb k 2) ≡ true → number2 xs 0 ≡ bodySize k → 4 + bodySize k ≤ length xs
@@ -163,14 +163,26 @@ rules-needed s l b e =
     (rest-forth s b l 0 0 0 zero-le zero-le (sym (parse-taken s l e) ∙ e), starts-full s l e, all-sound s l e, all-lines s l e)
 
 -- 4. The bytes of an item are read back as the item.
-module _ (more : List ℕ) where
-  full-back : (b : Full) → fullAt (fullBytes b ++ more) 4 ≡ b
-  unfolding fullAt fullBytes
-  full-back b = simp (back3, back2)
+abbrev kindOf : Item → ℕ
+kindOf (full b) = 1
+kindOf (running b) = 2
 
-  running-back : (b : Running) → runningAt (runningBytes b ++ more) 4 ≡ b
-  unfolding runningAt runningBytes
-  running-back b = refl
+-- what stands in front of a plan that begins with the bytes of an item
+record Front (it : Item) (more : List ℕ) : Type 0 where
+  size : number2 (itemBytes it ++ more) 0 ≡ bodySize (kindOf it)
+  kind : number2 (itemBytes it ++ more) 2 ≡ kindOf it
+  body : bodyAt (itemBytes it ++ more) 4 (kindOf it) ≡ it
+  known : eqb (kindOf it) 1 || eqb (kindOf it) 2 ≡ true
+  long : length (itemBytes it) ≡ 4 + bodySize (kindOf it)
+
+full-back : (b : Full) (more : List ℕ) → fullAt (fullBytes b ++ more) 4 ≡ b
+unfolding fullAt fullBytes
+full-back b more = simp (back3, back2)
+
+front : (it : Item) (more : List ℕ) → Front it more
+unfolding fullBytes runningBytes runningAt
+front (full b) more = record { size = refl; kind = refl; body = ap full (full-back b more); known = refl; long = refl }
+front (running b) more = record { size = refl; kind = refl; body = refl; known = refl; long = refl }
 
 fits : (it : Item) (n total next : ℕ) → (isFull it ≡ true) ⊎ (0 < n) → soundItem it ≡ true → total + linesOf it ≤ 240 → fitted it n total next ≡ Is it next
 unfolding fitted
@@ -178,31 +190,25 @@ fits it n total next first sound lines =
     let one : isFull it || ltb 0 n ≡ true = ⊎-elim (λ (e : isFull it ≡ true). simp e) (λ (e : 0 < n). simp (lt-ltb 0 n e, or-true)) first in
     simp (one, sound, le-leb (total + linesOf it) 240 lines)
 
-module _ (s : List ℕ) (at n total : ℕ) (more : List ℕ) where
-  item-back :
-      (it : Item) → drop at s ≡ itemBytes it ++ more → (isFull it ≡ true) ⊎ (0 < n) → soundItem it ≡ true → total + linesOf it ≤ 240
-      → itemAt s at n total ≡ Is it (at + length (itemBytes it))
-  unfolding itemAt fullBytes runningBytes
-  item-back (full b) e first sound lines =
-      let kind : number2 s (at + 2) ≡ 1 = kind-left s at ∙ ap (λ (x : List ℕ). number2 x 2) e in
-      let size : number2 s at ≡ 23 = size-left s at ∙ ap (λ (x : List ℕ). number2 x 0) e in
-      let body : fullAt s (at + 4) ≡ b = full-left s at ∙ (ap (λ (x : List ℕ). fullAt x 4) e ∙ full-back more b) in
-      let long : length s - at ≡ 27 + length more = sym (length-drop at s) ∙ (ap length e ∙ length-append (fullBytes b) more) in
-      simp (kind, size, body, le-leb 4 (length s - at) (omega arith), le-leb 27 (length s - at) (omega arith))
-      (fits (full b) n total (at + 4 + 23) first sound lines ∙ ap (λ (k : ℕ). Is (full b) k) (omega arith))
-  item-back (running b) e first sound lines =
-      let kind : number2 s (at + 2) ≡ 2 = kind-left s at ∙ ap (λ (x : List ℕ). number2 x 2) e in
-      let size : number2 s at ≡ 7 = size-left s at ∙ ap (λ (x : List ℕ). number2 x 0) e in
-      let body : runningAt s (at + 4) ≡ b = running-left s at ∙ (ap (λ (x : List ℕ). runningAt x 4) e ∙ running-back more b) in
-      let long : length s - at ≡ 11 + length more = sym (length-drop at s) ∙ (ap length e ∙ length-append (runningBytes b) more) in
-      simp (kind, size, body, le-leb 4 (length s - at) (omega arith), le-leb 11 (length s - at) (omega arith))
-      (fits (running b) n total (at + 4 + 7) first sound lines ∙ ap (λ (k : ℕ). Is (running b) k) (omega arith))
+item-back :
+    (s : List ℕ) (at n total : ℕ) (more : List ℕ) (it : Item) → drop at s ≡ itemBytes it ++ more → (isFull it ≡ true) ⊎ (0 < n) → soundItem it ≡ true
+    → total + linesOf it ≤ 240
+    → itemAt s at n total ≡ Is it (at + length (itemBytes it))
+unfolding itemAt
+item-back s at n total more it e first sound lines =
+    let f = front it more in
+    let k = kindOf it in
+    let kind : number2 s (at + 2) ≡ k = kind-left s at ∙ (ap (λ (x : List ℕ). number2 x 2) e ∙ f .kind) in
+    let size : number2 s at ≡ bodySize k = size-left s at ∙ (ap (λ (x : List ℕ). number2 x 0) e ∙ f .size) in
+    let body : bodyAt s (at + 4) k ≡ it = body-left s at k ∙ (ap (λ (x : List ℕ). bodyAt x 4 k) e ∙ f .body) in
+    let long : length s - at ≡ length (itemBytes it) + length more = sym (length-drop at s) ∙ (ap length e ∙ length-append (itemBytes it) more) in
+    rw (kind, size, body)
+    (simp (f .known, eq-eqb (bodySize k) (bodySize k) refl, le-leb 4 (length s - at) (omega (arith, f .long)), le-leb (4 + bodySize k) (length s - at) (omega (arith, f .long)))
+    (fits it n total (at + 4 + bodySize k) first sound lines ∙ ap (λ (j : ℕ). Is it j) (omega (arith, f .long))))
 
 -- an item has a byte
 item-some : (it : Item) → 1 ≤ length (itemBytes it)
-unfolding fullBytes runningBytes
-item-some (full b) = omega arith
-item-some (running b) = omega arith
+item-some it = omega (arith, front it [] .long)
 
 -- 5. The walk over the bytes of items that keep the rules. Where a full band is not behind us, one comes next.
 module _ (s : List ℕ) where

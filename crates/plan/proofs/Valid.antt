@@ -1,23 +1,22 @@
 -- What is known of the items of a plan that is taken, and of its list. Assumes nothing.
-use mathlib.Core.Path.{_≡_, refl, sym, ap, _∙_}
-use mathlib.Core.Bool.{Bool, true, false}
-use mathlib.Core.List.{List, [], _∷_, _++_}
+use mathlib.Core.Path.{_≡_, refl, sym, _∙_}
+use mathlib.Core.Bool.{true}
+use mathlib.Core.List.{List, [], _∷_}
 use Prim.Native.Nat.{ℕ, _+_, _*_, _≤_, zero-le}
 use native.Mathlib.Omega.{arith}
 use lib.Dec.{eqb}
-use lib.ListN.{length, getD, length-append}
+use lib.ListN.{length, length-append}
 use borrow.Author.Tests.{eqb-true}
 use Rattle.laws.proofs.Choice.{by-cond}
 use Rattle.refusal.specs.declared.Refusal.the-variants.{NoBand}
-use Rattle.item.specs.Item.{number2, fullAt, runningAt, soundItem, linesOf, isFull, bodyAt, itemAt}
+use Rattle.item.specs.Item.{number2, fullAt, runningAt, linesOf, bodyAt}
 use Rattle.item.specs.declared.Item.{Item}
 use Rattle.item.specs.declared.Item.the-variants.{Full as full, Running as running}
-use Rattle.item.specs.declared.Read.the-variants.{Is}
 use Rattle.item.proofs.Ranges.{some-line}
 use Rattle.item.proofs.Taken.{taken}
 use Rattle.plan.specs.Plan.{Parsed, good, bad, rest, parse, itemsOf}
 use Rattle.plan.specs.Rules.{Bytes, StartsFull, AllSound, linesIn}
-use Rattle.plan.specs.Xdl.{isEmpty, recordOf, sizeOf, bytesOf, xdlBytes}
+use Rattle.plan.specs.Xdl.{isEmpty, recordOf, bytesOf, xdlBytes}
 use Rattle.plan.proofs.Records.{length-record, size-le, bytes-append, Open, bytes-record}
 use Rattle.plan.proofs.Walk.{bad-good, uncons, last-is, parse-none, parse-taken}
 

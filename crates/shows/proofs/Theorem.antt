@@ -1,6 +1,5 @@
 -- Demand 3: memory that holds a plan's list shows the plan, on each of the 240 lines; a plan that breaks no rule is compiled, and installing its list makes memory hold it. Assumes nothing.
 use mathlib.Core.Path.{_≡_, refl, sym, ap, _∙_, subst}
-use mathlib.Core.Bool.{true}
 use mathlib.Core.List.{List, [], _∷_, _++_}
 use Prim.Native.Nat.{ℕ, zero, suc, _+_, _<_}
 use native.Mathlib.Omega.{arith}

@@ -28,9 +28,6 @@ returns-3 : tie.Need-returns-3
 unfolding runCall
 returns-3 c = simp (sym (c .before .before .before .before .before .good-length .ensures) ∙ not-false _ (c .before .before .before .before .if1 .left), le-leb _ _ (c .before .before .before .if2 .left), sym (c .before .board-fits .ensures) ∙ not-true _ (c .if3 .taken)) (refl, (refl, (refl, refl)))
 
-board-of-requires : tie.Need-board-of-requires
-board-of-requires c κs = tt
-
 run-unreported-requires : tie.Need-run-unreported-requires
 run-unreported-requires c κs = tt
 
@@ -39,10 +36,13 @@ same-length-2 c = search needs
 
 returns-4 : tie.Need-returns-4
 returns-4 c =
-    let b = c .before .before in
-    let good = sym (b .before .before .before .before .before .before .before .good-length .ensures) ∙ not-false _ (b .before .before .before .before .before .before .if1 .left) in
-    let fits = sym (b .before .before .before .board-fits .ensures) ∙ not-false _ (b .before .before .if3 .left) in
-    run-short _ _ (b .before .before .before .before .before .if2 .left) fits (b .board-of .ensures) _ _ _ good (c .before .if4 .taken) _ (c .run-unreported .ensures)
+    let e = c .before .before .before in
+    let good = sym (e .before .before .before .before .before .good-length .ensures) ∙ not-false _ (e .before .before .before .before .if1 .left) in
+    let fits = sym (e .before .board-fits .ensures) ∙ not-false _ (e .if3 .left) in
+    run-short _ _ (e .before .before .before .if2 .left) fits refl _ _ _ good (c .before .before .if4 .taken) _ (c .run-unreported .ensures)
+
+board-of-requires : tie.Need-board-of-requires
+board-of-requires c κs = tt
 
 run-requires : tie.Need-run-requires
 run-requires c κs = tt
@@ -61,13 +61,14 @@ same-length-5 c = search needs
 
 returns-5 : tie.Need-returns-5
 returns-5 c =
-    let b = c .before .before .before .before .before .before .before .before .before .before .before .before in
-    let good = sym (b .before .before .before .before .before .before .before .good-length .ensures) ∙ not-false _ (b .before .before .before .before .before .before .if1 .left) in
-    let fits = sym (b .before .before .before .board-fits .ensures) ∙ not-false _ (b .before .before .if3 .left) in
+    let r = c .before .before .before .before .before .before .before .before .before in
+    let f = r .before .before .before .before in
+    let e = f .before in
+    let good = sym (e .before .before .before .before .before .good-length .ensures) ∙ not-false _ (e .before .before .before .before .if1 .left) in
+    let fits = sym (e .before .board-fits .ensures) ∙ not-false _ (e .if3 .left) in
     let s = c .before .before .before .before .settle-run .ensures in
-    let r = c .before .before .before .before .before .before .before .before .before .run .ensures in
-    let h = c .before .before .before .before .before .before .before .before .before .before .before .if4 .left in
-    run-done _ _ (b .before .before .before .before .before .if2 .left) fits (b .board-of .ensures) _ _ _ good h _ _ _ _ _ _ (s .0) (s .1 .0) (s .1 .1) (r .0) (r .1 .0) (r .1 .1)
+    let ran = r .run .ensures in
+    run-done _ _ (e .before .before .before .if2 .left) fits (r .before .before .board-of .ensures) _ _ _ good (f .if4 .left) _ _ _ _ _ _ (s .0) (s .1 .0) (s .1 .1) (ran .0) (ran .1 .0) (ran .1 .1)
 
 pub deskboard-run-spec : {M : Type 1} → statement M
 deskboard-run-spec =
@@ -79,10 +80,10 @@ deskboard-run-spec =
     board-fits-requires
     same-length
     returns-3
-    board-of-requires
     run-unreported-requires
     same-length-2
     returns-4
+    board-of-requires
     run-requires
     settle-run-requires
     same-length-3
