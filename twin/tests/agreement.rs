@@ -13,7 +13,7 @@ use std::time::Instant;
 use twin::card::{Card, BOARD_WORDS, FRAME_WORDS, SETTINGS_WORDS};
 use twin::desk::Desk;
 use twin::random::{spread, Random};
-use twin::twin::{meaning, xdl, Twin};
+use twin::twin::{meaning, xdl, Refusal, Twin};
 
 /// Everything that is lent to calls.
 #[derive(Clone, Default, PartialEq)]
@@ -675,9 +675,11 @@ fn the_boards_agree() {
     );
 
     assert!(total.ticks >= 1_000_000);
-    // Number 12 cannot be met: no plan is that long.
-    for number in (0..=15).filter(|&number| number != 12) {
-        assert!(total.numbers[number] > 0, "number {number} never came");
+    // 0 and each number of the sheet came, and no other.
+    let sheet = Refusal::SHEET.map(Refusal::number);
+    for (number, &count) in (0..).zip(&total.numbers) {
+        let told = number == 0 || sheet.contains(&number);
+        assert_eq!(count > 0, told, "number {number} came {count} times");
     }
     assert!(total.items > 0);
 }

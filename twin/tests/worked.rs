@@ -528,7 +528,11 @@ worked! {
     fn the_longest_xdl_has_5280_bytes<C>() {
         let plan = times(240, full());
         assert_eq!(compile::<C>(&plan).map(|xdl| xdl.len()), Ok(5_280));
+        assert_eq!(compile_into::<C>(&plan, &mut [0xEE; 5_280]), Ok(5_280));
         assert_eq!(compile_into::<C>(&plan, &mut [0xEE; 5_279]), Err((13, 0)));
+        let over = times(241, full());
+        assert_eq!(compile_into::<C>(&over, &mut [0xEE; 5_280]), Err((11, 240)));
+        assert_eq!(compile_into::<C>(&over, &mut []), Err((11, 240)));
     }
 
     fn nothing_is_written_before_the_last_item_is_read<C>() {

@@ -6,8 +6,7 @@ use Prim.Native.Nat.{ℕ, _≤_, _<_}
 use native.Mathlib.Omega.{arith}
 use lib.Dec.{leb}
 use lib.ListN.{length}
-use borrow.Author.Tests.{le-leb, leb-true}
-use Rattle.refusal.proofs.Sheet.{passed}
+use borrow.Author.Tests.{le-leb}
 use Rattle.refusal.specs.Sheet.{Told, done, refused, unless, kept}
 use Rattle.vram.specs.Memory.{goodLength}
 use Rattle.engine.specs.Run.{Counts}
@@ -17,8 +16,7 @@ use Rattle.board.proofs.Answer.{tick-answer, tick-board, tick-memory}
 use Rattle.settings.specs.declared.Settings.{Settings}
 use Rattle.frame.specs.declared.Frame.{Frame}
 use Rattle.frame.specs.Frame.{lineAnswer, lineFrame, startAnswer}
-use Rattle.plan.specs.Compile.{compileTold, checkedOf, fitting, compileAnswer, compileOutput}
-use Rattle.plan.specs.Plan.{parse}
+use Rattle.plan.specs.Compile.{compileAnswer, compileOutput}
 use Rattle.plan.proofs.Refused.{roomless, no-room}
 use Rattle.words.specs.Words.{laid}
 use Rattle.boardwords.specs.Board.{boardSize, boardOf, boardWords, boardFits}
@@ -169,20 +167,6 @@ module _
 pub compile-passed : (plan : List ℕ) (room : ℕ) (report : List ℕ) → 1 ≤ length report → compileCall plan room report ≡ compileAnswer plan room
 unfolding compileCall
 compile-passed plan room report h = roomy 1 report (compileAnswer plan room) h
-
--- a list that was compiled has 8,192 bytes at most
-pub compile-small : (plan : List ℕ) (room n : ℕ) → compileAnswer plan room ≡ done n → n ≤ 8192
-unfolding compileAnswer
-compile-small plan room n = by (compileTold (checkedOf (parse plan)))
-  where
-    by : (told : Told ℕ) → fitting told room ≡ done n → n ≤ 8192
-    by (done m) e =
-        let one = passed (leb m 8192) 12 (unless (leb m room) 13 (done m)) n e in
-        let two = passed (leb m room) 13 (done m) n (one .1) in
-        let small = leb-true m 8192 (one .0) in
-        let same : m ≡ n = cc (two .1) in
-        omega arith
-    by (refused k item) e = absurd (let z : _≡_ {A = ℕ} 0 1 = cc in omega arith)
 
 -- into no room at all it is refused
 pub no-room-done : (plan : List ℕ) (n : ℕ) {A : Type 0} → compileAnswer plan 0 ≡ done n → A

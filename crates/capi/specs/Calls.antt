@@ -129,7 +129,7 @@ lineWords frame mem settings = kept (lineCall frame mem settings) frame (laid (f
 abbrev pub lineSettings : List ℕ → List ℕ → List ℕ → List ℕ
 lineSettings frame mem settings = reported settingsWords (lineCall frame mem settings) settings
 
--- "Compiles a plan: refusals 6, 5, 7 to 11, 12, 13. The number of bytes goes to report[0]."
+-- "Compiles a plan: refusals 6, 5, 7 to 11, 13. The number of bytes goes to report[0]."
 unfoldable pub compileCall : List ℕ → ℕ → List ℕ → Told ℕ
 compileCall plan room report = reportable 1 report (compileAnswer plan room)
 

@@ -1,21 +1,21 @@
 -- What compiling tells and writes, from what the two passes do; what is known where it is done. Assumes nothing.
-use mathlib.Core.Path.{_≡_, refl, sym, ap, _∙_}
+use mathlib.Core.Path.{_≡_, refl, ap}
 use mathlib.Core.List.{List, _++_}
 use Prim.Native.Nat.{ℕ, _≤_, _<_}
 use native.Mathlib.Omega.{arith}
 use lib.Dec.{leb}
 use lib.ListN.{length, drop}
 use borrow.Author.Tests.{le-leb, lt-leb, leb-true}
-use Rattle.refusal.specs.Sheet.{Told, done}
+use Rattle.refusal.specs.Sheet.{done}
 use Rattle.refusal.specs.declared.Refusal.{Refusal}
-use Rattle.refusal.specs.declared.Refusal.the-variants.{Long, Room}
+use Rattle.refusal.specs.declared.Refusal.the-variants.{Room}
 use Rattle.refusal.proofs.Sheet.{passed}
 use Rattle.plan.specs.Plan.{Parsed, good, bad, parse, itemsOf}
 use Rattle.plan.specs.Xdl.{bytesOf, xdlBytes}
 use Rattle.plan.specs.Compile.{compileTold, checkedOf, fitting, compileAnswer, compileOutput}
 use Rattle.plan.specs.declared.Compiled.{Compiled}
 use Rattle.plan.specs.declared.Compiled.the-variants.{Done, Refused}
-use Rattle.plan.proofs.Valid.{at-most}
+use Rattle.plan.proofs.Valid.{xdl-at-most}
 
 done-refused : {A : Type 0} (b : ℕ) (why : Refusal) (n : ℕ) → Refused why n ≡ Done b → A
 done-refused b why n e = absurd (let z : _≡_ {A = ℕ} 0 1 = cc in omega arith)
@@ -31,13 +31,9 @@ module _ (plan out : List ℕ) where
   compile-refused why n e = simp e (refl, refl)
 
   module _ (b : ℕ) (e : checkedOf (parse plan) ≡ Done b) where
-    pub compile-long : 8192 < b → Is plan out out (Refused Long 0)
+    pub compile-room : length out < b → Is plan out out (Refused Room 0)
     unfolding compileAnswer compileOutput
-    compile-long h = simp (e, lt-leb b 8192 h) (refl, refl)
-
-    pub compile-room : b ≤ 8192 → length out < b → Is plan out out (Refused Room 0)
-    unfolding compileAnswer compileOutput
-    compile-room h k = simp (e, le-leb b 8192 h, lt-leb b (length out) k) (refl, refl)
+    compile-room h = simp (e, lt-leb b (length out) h) (refl, refl)
 
     checked : (p : Parsed) → checkedOf p ≡ Done b → (p ≡ good (itemsOf p)) × (length (bytesOf (itemsOf p)) ≡ b)
     checked (good l) c = (refl, cc)
@@ -49,11 +45,27 @@ module _ (plan out : List ℕ) where
     write-may-begin h = let g = checked (parse plan) e in (g .0, omega arith)
 
     pub compile-done :
-        (out′ : List ℕ) → b ≤ 8192 → b ≤ length out → out′ ≡ xdlBytes plan ++ drop (length (xdlBytes plan)) out → Is plan out out′ (Done b)
+        (out′ : List ℕ) → b ≤ length out → out′ ≡ xdlBytes plan ++ drop (length (xdlBytes plan)) out → Is plan out out′ (Done b)
     unfolding compileAnswer compileOutput
-    compile-done out′ h k w = simp (e, le-leb b 8192 h, le-leb b (length out) k) (refl, w)
+    compile-done out′ h w = simp (e, le-leb b (length out) h) (refl, w)
 
--- what is known of a plan that was compiled into k bytes of an output
+-- what is known of a plan that was compiled into k bytes of so much room
+taken-in : (plan : List ℕ) (room k : ℕ) → compileAnswer plan room ≡ done k → (parse plan ≡ good (itemsOf (parse plan))) × ((length (xdlBytes plan) ≡ k) × (k ≤ room))
+unfolding compileAnswer xdlBytes
+taken-in plan room k = go (parse plan)
+  where
+    go :
+        (p : Parsed) → fitting (compileTold (checkedOf p)) room ≡ done k → (p ≡ good (itemsOf p)) × ((length (bytesOf (itemsOf p)) ≡ k) × (k ≤ room))
+    go (bad why n) e = absurd (let z : _≡_ {A = ℕ} 0 1 = cc in omega arith)
+    go (good l) e =
+        let b = passed (leb (length (bytesOf l)) room) 13 _ k e in
+        let count : length (bytesOf l) ≡ k = cc (b .1) in
+        (refl, (count, omega (arith, leb-true (length (bytesOf l)) room (b .0))))
+
+pub compiled-at-most : (plan : List ℕ) (room k : ℕ) → compileAnswer plan room ≡ done k → k ≤ 5280
+compiled-at-most plan room k e = omega (arith, taken-in plan room k e .1 .0, xdl-at-most plan)
+
+-- and of the output
 pub record Accepted (plan out : List ℕ) (k : ℕ) : Type 0 where
   pub items : parse plan ≡ good (itemsOf (parse plan))
   pub count : length (xdlBytes plan) ≡ k
@@ -65,26 +77,11 @@ unfolding compileOutput
 output-done plan out k e c = simp e (ap (λ (j : ℕ). xdlBytes plan ++ drop j out) c)
 
 pub accepted : (plan out : List ℕ) (k : ℕ) → compileAnswer plan (length out) ≡ done k → Accepted plan out k
-unfolding compileAnswer xdlBytes
-accepted plan out k e = go (parse plan) refl e
-  where
-    go : (p : Parsed) → parse plan ≡ p → fitting (compileTold (checkedOf p)) (length out) ≡ done k → Accepted plan out k
-    go (bad why n) q f = absurd (let z : _≡_ {A = ℕ} 0 1 = cc in omega arith)
-    go (good l) q f =
-        let a = passed (leb (length (bytesOf l)) 8192) 12 _ k f in
-        let b = passed (leb (length (bytesOf l)) (length out)) 13 _ k (a .1) in
-        let count : length (bytesOf l) ≡ k = cc (b .1) in
-        let list : length (bytesOf (itemsOf (parse plan))) ≡ k = ap (λ (p : Parsed). length (bytesOf (itemsOf p))) q ∙ count in
-        record {
-          items = q ∙ ap (λ (p : Parsed). good (itemsOf p)) (sym q);
-          count = list;
-          room = omega (arith, leb-true (length (bytesOf l)) (length out) (b .0));
-          output = output-done plan out k e list;
-        }
+accepted plan out k e =
+    let t = taken-in plan (length out) k e in
+    record { items = t .0; count = t .1 .0; room = t .1 .1; output = output-done plan out k e (t .1 .0) }
 
 -- and the other way: a plan that is taken is compiled where its list fits
 pub compiles : (plan : List ℕ) (room : ℕ) → parse plan ≡ good (itemsOf (parse plan)) → length (xdlBytes plan) ≤ room → compileAnswer plan room ≡ done (length (xdlBytes plan))
 unfolding compileAnswer xdlBytes
-compiles plan room g h =
-    let short = at-most plan (itemsOf (parse plan)) g in
-    rw (ap checkedOf g) (simp (le-leb (length (bytesOf (itemsOf (parse plan)))) 8192 (omega arith), le-leb (length (bytesOf (itemsOf (parse plan)))) room h))
+compiles plan room g h = rw (ap checkedOf g) (simp (le-leb (length (bytesOf (itemsOf (parse plan)))) room h))

@@ -7,7 +7,7 @@ use native.Mathlib.Decide.{decLt}
 use native.Mathlib.Omega.{arith}
 use lib.Dec.{eqb, leb}
 use lib.ListN.{length, length-append}
-use borrow.Author.Tests.{lt-ltb, le-ltb, le-leb, lt-leb}
+use borrow.Author.Tests.{lt-ltb, le-ltb, lt-leb}
 use Rattle.refusal.specs.Sheet.{Told, done, refused, unless}
 use Rattle.refusal.specs.declared.Refusal.{Refusal}
 use Rattle.refusal.specs.declared.Refusal.the-variants.{NoBand}
@@ -21,7 +21,7 @@ use Rattle.plan.specs.Plan.{Parsed, good, bad, with, parseFrom, rest, pa
 use Rattle.plan.specs.Xdl.{isEmpty, recordOf, bytesOf}
 use Rattle.plan.specs.Compile.{compileTold, checkedOf, fitting, compileAnswer}
 use Rattle.plan.proofs.Records.{length-record, size-some}
-use Rattle.plan.proofs.Valid.{starts-full, at-most}
+use Rattle.plan.proofs.Valid.{starts-full}
 use Rattle.plan.proofs.Walk.{bad-good}
 
 bad-with : (it : Item) (p : Parsed) (why : Refusal) (k : ℕ) → with it p ≡ bad why k → p ≡ bad why k
@@ -83,13 +83,12 @@ pub refused-item : (plan : List ℕ) (room k n : ℕ) → compileAnswer plan roo
 unfolding compileAnswer
 refused-item plan room k n = go (parse plan) refl
   where
-    chain : (a b : Bool) (m : ℕ) → unless a 12 (unless b 13 (done m)) ≡ refused k n → n ≤ 240
-    chain true true m e = absurd (let z : _≡_ {A = ℕ} 0 1 = cc e in omega arith)
-    chain true false m e = let same : 0 ≡ n = cc e in omega arith
-    chain false b m e = let same : 0 ≡ n = cc e in omega arith
+    chain : (b : Bool) (m : ℕ) → unless b 13 (done m) ≡ refused k n → n ≤ 240
+    chain true m e = absurd (let z : _≡_ {A = ℕ} 0 1 = cc e in omega arith)
+    chain false m e = let same : 0 ≡ n = cc e in omega arith
 
     go : (p : Parsed) → parse plan ≡ p → Compiles p room ≡ refused k n → n ≤ 240
-    go (good l) q e = chain (leb (length (bytesOf l)) 8192) (leb (length (bytesOf l)) room) (length (bytesOf l)) e
+    go (good l) q e = chain (leb (length (bytesOf l)) room) (length (bytesOf l)) e
     go (bad why m) q e = let same : m ≡ n = cc e in omega (arith, bad-small plan why m q)
 
 -- without any room a plan that is taken is refused 13, and one that is refused is refused as before
@@ -108,6 +107,4 @@ no-room plan room = go (parse plan) refl
     go : (p : Parsed) → parse plan ≡ p → Compiles p 0 ≡ roomless (Compiles p room)
     go (bad why m) q = refl
     go (good l) q =
-        let few = at-most plan l q in
-        simp (le-leb (length (bytesOf l)) 8192 (omega arith), lt-leb (length (bytesOf l)) 0 (some-byte plan l q))
-        (chain (leb (length (bytesOf l)) room) (length (bytesOf l)))
+        simp (lt-leb (length (bytesOf l)) 0 (some-byte plan l q)) (chain (leb (length (bytesOf l)) room) (length (bytesOf l)))

@@ -17,6 +17,7 @@ use Rattle.item.proofs.Taken.{taken}
 use Rattle.plan.specs.Plan.{Parsed, good, bad, rest, parse, itemsOf}
 use Rattle.plan.specs.Rules.{Bytes, StartsFull, AllSound, linesIn}
 use Rattle.plan.specs.Xdl.{isEmpty, recordOf, bytesOf, xdlBytes}
+use Rattle.plan.specs.Compile.{AtMost}
 use Rattle.plan.proofs.Records.{length-record, size-le, bytes-append, Open, bytes-record}
 use Rattle.plan.proofs.Walk.{bad-good, uncons, last-is, parse-none, parse-taken}
 
@@ -71,14 +72,14 @@ module _ (s : List ℕ) where
       let none : eqb 0 (length s) ≡ true = last-is s 0 0 0 [] zero-le zero-le (walk [] e) in
       bad-good NoBand 0 [] (sym (parse-none s (sym (eqb-true 0 (length s) none))) ∙ e)
 
--- a list has at most 22 bytes for each line, so 5,280: number 12 is never given
+-- a list has at most 22 bytes for each line, so 5,280
 list-le : (l : List Item) → AllSound l → length (bytesOf l) ≤ 22 * linesIn l
 list-le [] a = omega arith
 list-le (it ∷ l) a =
     omega
     (arith, length-append (recordOf it (isEmpty l)) (bytesOf l), length-record it (isEmpty l), size-le it, some-line it (a .0), list-le l (a .1))
 
-pub at-most : (s : List ℕ) (l : List Item) → parse s ≡ good l → length (bytesOf l) ≤ 5280
+pub at-most : AtMost
 at-most s l e = omega (arith, list-le l (all-sound s l e), all-lines s l e)
 
 -- the same of a plan's list, which is empty where the plan is refused

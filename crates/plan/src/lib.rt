@@ -19,11 +19,6 @@ pub enum Compiled {
     Refused(Refusal, u32),
 }
 
-impl Compiled {
-    // A longer list would be refused. None is: a plan has 240 items at most, of 22 bytes at most.
-    pub const LONGEST: usize = 8192;
-}
-
 // TMON for text, GMON for the pixel modes, OVOFF where the overlay is off.
 fn overlay_bit(mode: u8) -> u8
     ensures { λ r. ⌜ (r ≡ overlayBit mode) × (r ≤ 4) ⌝ }
@@ -190,9 +185,6 @@ pub fn compile(plan: &[u8], out: &mut [u8]) -> Compiled
     match c {
         Compiled::Refused(why, item) => Compiled::Refused(why, item),
         Compiled::Done(bytes) => {
-            if Compiled::LONGEST < bytes {
-                return Compiled::Refused(Refusal::Long, 0);
-            }
             if out.len() < bytes {
                 return Compiled::Refused(Refusal::Room, 0);
             }

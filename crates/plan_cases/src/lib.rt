@@ -33,8 +33,8 @@ fn below() {
     );
 }
 
-// A plan into a lent buffer: what is told, and all that the buffer holds.
-fn compiled(title: &[u8], plan: &[u8], out: &mut [u8]) {
+// A plan into a lent buffer: what is told.
+fn told(title: &[u8], plan: &[u8], out: &mut [u8]) {
     let told = plan::compile(plan, out);
     print::text(title);
     print::text(b" into ");
@@ -47,9 +47,19 @@ fn compiled(title: &[u8], plan: &[u8], out: &mut [u8]) {
         }
         Compiled::Refused(why, item) => print::refused(why, item),
     }
+}
+
+// Bytes of a buffer, in a line.
+fn held(out: &[u8]) {
     print::text(b" ");
     print::bytes(out);
     print::text(b"\n");
+}
+
+// What is told, and all that the buffer holds.
+fn compiled(title: &[u8], plan: &[u8], out: &mut [u8]) {
+    told(title, plan, out);
+    held(out);
 }
 
 // A plan of one item, whose list has 22 bytes.
@@ -106,10 +116,42 @@ fn rooms_of_two() {
     );
 }
 
+// F() over and over, from end to end.
+fn fill(plan: &mut [u8]) {
+    let band = b"\x17\0\x01\0\x01\0\0\0\0\0\0\0\0\0\0\0\0\0\0\0\0\0\x08\x08\x01\x01\xFF";
+    for i in 0..plan.len() {
+        plan[i] = band[i % 27];
+    }
+}
+
+// The longest list, of 240 records of 22 bytes: into buffers of EE around it, and what their last 22 bytes hold.
+fn longest() {
+    let mut plan = [0u8; 6480];
+    fill(&mut plan);
+    let mut short = [0xEEu8; 5279];
+    told(b"240 F()", &plan, &mut short);
+    held(&short[5257..]);
+    let mut exact = [0xEEu8; 5280];
+    told(b"240 F()", &plan, &mut exact);
+    held(&exact[5258..]);
+}
+
+// One band more is refused by its lines, whatever room there is.
+fn too_many() {
+    let mut plan = [0u8; 6507];
+    fill(&mut plan);
+    let mut room = [0xEEu8; 5280];
+    told(b"241 F()", &plan, &mut room);
+    held(&room[5258..]);
+    told(b"241 F()", &plan, &mut []);
+}
+
 // All of them, each in memory of its own.
 pub fn all() {
     rows();
     below();
     rooms_of_one();
     rooms_of_two();
+    longest();
+    too_many();
 }

@@ -1,23 +1,23 @@
 -- No two refusals share a number; what a chain of refusals that ends well says. Assumes nothing.
 use mathlib.Core.Path.{_≡_, refl, sym, ap, _∙_}
 use mathlib.Core.Bool.{Bool, true, false}
-use mathlib.Core.List.{List, [], _∷_}
+use mathlib.Core.List.{[], _∷_}
 use Prim.Native.Nat.{ℕ}
 use native.Mathlib.Omega.{arith}
 use lib.ListN.{getD}
 use Rattle.laws.proofs.Once.{OneAnswer}
-use Rattle.refusal.specs.Sheet.{numberOf, Told, done, refused, outcomeTold, unless}
+use Rattle.refusal.specs.Sheet.{numberOf, Told, done, outcomeTold, unless}
 use Rattle.refusal.specs.declared.Refusal.{Refusal}
-use Rattle.refusal.specs.declared.Refusal.the-variants.{Board, Budget, Register, FrameOver, PlanCut, NoBand, Kind, Length, Field, First, Lines, Long, Room, Address, State}
+use Rattle.refusal.specs.declared.Refusal.the-variants.{Board, Budget, Register, FrameOver, PlanCut, NoBand, Kind, Length, Field, First, Lines, Room, Address, State}
 use Rattle.refusal.specs.declared.Outcome.{Outcome}
 use Rattle.refusal.specs.declared.Outcome.the-variants.{Done, Refused}
 use Rattle.refusal.proofs.Refusal.number.Kinds as number-kinds
 use Rattle.refusal.proofs.Refusal.number.Reads as number
 
--- the name at a number
+-- the name at a number; at the unused ones, 0 and 12, any
 abbrev nameOf : ℕ → Refusal
 nameOf k =
-    getD (Board ∷ Board ∷ Budget ∷ Register ∷ FrameOver ∷ PlanCut ∷ NoBand ∷ Kind ∷ Length ∷ Field ∷ First ∷ Lines ∷ Long ∷ Room ∷ Address ∷ State ∷ []) k Board
+    getD (Board ∷ Board ∷ Budget ∷ Register ∷ FrameOver ∷ PlanCut ∷ NoBand ∷ Kind ∷ Length ∷ Field ∷ First ∷ Lines ∷ Board ∷ Room ∷ Address ∷ State ∷ []) k Board
 
 name-number : (w : Refusal) → nameOf (numberOf w) ≡ w
 name-number Board = refl
@@ -31,7 +31,6 @@ name-number Length = refl
 name-number Field = refl
 name-number First = refl
 name-number Lines = refl
-name-number Long = refl
 name-number Room = refl
 name-number Address = refl
 name-number State = refl

@@ -2,11 +2,11 @@
 use Prim.Native.Nat.{ℕ}
 use mathlib.Core.Bool.{Bool, true, false}
 use Rattle.refusal.specs.declared.Refusal.{Refusal}
-use Rattle.refusal.specs.declared.Refusal.the-variants.{Board, Budget, Register, FrameOver, PlanCut, NoBand, Kind, Length, Field, First, Lines, Long, Room, Address, State}
+use Rattle.refusal.specs.declared.Refusal.the-variants.{Board, Budget, Register, FrameOver, PlanCut, NoBand, Kind, Length, Field, First, Lines, Room, Address, State}
 use Rattle.refusal.specs.declared.Outcome.{Outcome}
 use Rattle.refusal.specs.declared.Outcome.the-variants.{Done, Refused}
 
--- the table: each name's number
+-- the table: each name's number; 12 is unused (document 02, A7)
 abbrev pub numberOf : Refusal → ℕ
 numberOf Board = 1
 numberOf Budget = 2
@@ -19,7 +19,6 @@ numberOf Length = 8
 numberOf Field = 9
 numberOf First = 10
 numberOf Lines = 11
-numberOf Long = 12
 numberOf Room = 13
 numberOf Address = 14
 numberOf State = 15

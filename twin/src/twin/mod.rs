@@ -13,7 +13,7 @@ mod words;
 pub use blitter::{Block, Job, Report, BLOCK_BYTES};
 pub use board::{Board, Budget, Phase, MAX_BUDGET};
 pub use frame::{Frame, Mode, Settings, LINES};
-pub use plan::{install, meaning, xdl, Item, MAX_INSTALL, MAX_XDL};
+pub use plan::{install, meaning, xdl, Item, MAX_INSTALL};
 pub use refusal::{Refusal, Refused};
 pub use video::{Video, ADDRESSES, ADDRESS_MASK};
 pub use words::Twin;

@@ -2,8 +2,6 @@ use super::frame::control::*;
 use super::{Mode, Refusal, Refused, Settings, Video, ADDRESSES, ADDRESS_MASK, LINES};
 use std::ops::DerefMut;
 
-/// No XDL is longer.
-pub const MAX_XDL: usize = 8_192;
 /// No more bytes are installed at once.
 pub const MAX_INSTALL: usize = 5_280;
 
@@ -255,9 +253,6 @@ pub fn xdl(plan: &[u8]) -> Result<Vec<u8>, Refused> {
     }
     let [_, end] = END.to_le_bytes();
     xdl[last + 1] |= end;
-    if xdl.len() > MAX_XDL {
-        return Err(Refusal::Long.into());
-    }
     Ok(xdl)
 }
 

@@ -13,13 +13,30 @@ pub enum Refusal {
     Field = 9,
     First = 10,
     Lines = 11,
-    Long = 12,
     Room = 13,
     Address = 14,
     State = 15,
 }
 
 impl Refusal {
+    /// The refusal sheet.
+    pub const SHEET: [Refusal; 14] = [
+        Refusal::Board,
+        Refusal::Budget,
+        Refusal::Register,
+        Refusal::FrameOver,
+        Refusal::PlanCut,
+        Refusal::NoBand,
+        Refusal::Kind,
+        Refusal::Length,
+        Refusal::Field,
+        Refusal::First,
+        Refusal::Lines,
+        Refusal::Room,
+        Refusal::Address,
+        Refusal::State,
+    ];
+
     pub fn number(self) -> u32 {
         self as u32
     }

@@ -2,9 +2,10 @@
 use mathlib.Core.Path.{sym, ap, _∙_}
 use native.Mathlib.Omega.{arith}
 use Rattle.plan.specs.Compile.{compileTold}
+use Rattle.plan.proofs.Compiling.{compiled-at-most}
 use Rattle.plan.proofs.Refused.{refused-item}
 use Rattle.capi.proofs.Told.{no-number, no-report, done-number, done-report}
-use Rattle.capi.proofs.Passed.{compile-passed, compile-short, compile-out, compile-small}
+use Rattle.capi.proofs.Passed.{compile-passed, compile-short, compile-out}
 use borrow.Author.Needs.{needs}
 use Rattle.capi.proofs.deskboard_compile.Statement.{statement}
 use Rattle.capi.proofs.deskboard_compile.Tie as tie
@@ -22,7 +23,7 @@ enum-known-told : tie.Need-enum-known-told
 enum-known-told c = search needs
 
 cast-count : tie.Need-cast-count
-cast-count c = let s = compile-small _ _ _ (sym (c .before .before .before .before .before .compile .ensures .0) ∙ ap compileTold (c .before .told .given .1)) in omega arith
+cast-count c = let s = compiled-at-most _ _ _ (sym (c .before .before .before .before .before .compile .ensures .0) ∙ ap compileTold (c .before .told .given .1)) in omega arith
 
 slice-aggregate-lay : tie.Need-slice-aggregate-lay
 slice-aggregate-lay c = search needs

@@ -5,7 +5,7 @@ use denote.Ref.{now}
 use Rattle.plan.specs.Compile.{checkedOf}
 use Rattle.plan.specs.Plan.{parse}
 use Rattle.plan.specs.declared.Compiled.the-variants.{Done}
-use Rattle.plan.proofs.Compiling.{compile-refused, compile-long, compile-room, write-may-begin, compile-done}
+use Rattle.plan.proofs.Compiling.{compile-refused, compile-room, write-may-begin, compile-done}
 use Rattle.plan.proofs.compile.Statement.{statement}
 use Rattle.plan.proofs.compile.Tie as tie
 
@@ -22,25 +22,22 @@ enum-known-c-2 : tie.Need-enum-known-c-2
 enum-known-c-2 c = search needs
 
 returns : tie.Need-returns
-returns c = let m = c .before .before in let b = m .before .before .before .before .before .args in compile-long (b .plan .now) (b .out .now) _ (counted m) (c .if1 .taken)
-
-returns-2 : tie.Need-returns-2
-returns-2 c = let m = c .before .before .before in let b = m .before .before .before .before .before .args in compile-room (b .plan .now) (b .out .now) _ (counted m) (c .before .if1 .left) (c .if2 .taken)
+returns c = let m = c .before .before in let b = m .before .before .before .before .before .args in compile-room (b .plan .now) (b .out .now) _ (counted m) (c .if1 .taken)
 
 write-all-requires : tie.Need-write-all-requires
-write-all-requires c κs = let m = c .before .before .before .before in let b = m .before .before .before .before .before .args in write-may-begin (b .plan .now) (b .out .now) _ (counted m) (c .before .if2 .left)
+write-all-requires c κs = let m = c .before .before .before in let b = m .before .before .before .before .before .args in write-may-begin (b .plan .now) (b .out .now) _ (counted m) (c .before .if1 .left)
 
-returns-3 : tie.Need-returns-3
-returns-3 c = let b = c .before .before .before .before .before .before .args in compile-refused (b .plan .now) (b .out .now) _ _ (sym (c .before .before .before .check .ensures) ∙ c .before .c .given .1)
+returns-2 : tie.Need-returns-2
+returns-2 c = let b = c .before .before .before .before .before .before .args in compile-refused (b .plan .now) (b .out .now) _ _ (sym (c .before .before .before .check .ensures) ∙ c .before .c .given .1)
 
 same-length : tie.Need-same-length
 same-length c = search needs
 
-returns-4 : tie.Need-returns-4
-returns-4 c =
-    let m = c .before .before .before .before .before .before .before in
+returns-3 : tie.Need-returns-3
+returns-3 c =
+    let m = c .before .before .before .before .before .before in
     let b = m .before .before .before .before .before .args in
-    compile-done (b .plan .now) (b .out .now) _ (counted m) _ (c .before .before .before .before .before .if1 .left) (c .before .before .before .before .if2 .left) (c .before .before .write-all .ensures)
+    compile-done (b .plan .now) (b .out .now) _ (counted m) _ (c .before .before .before .before .if1 .left) (c .before .before .write-all .ensures)
 
 pub compile-spec : {M : Type 1} → statement M
 compile-spec =
@@ -50,8 +47,7 @@ compile-spec =
     enum-known-c
     enum-known-c-2
     returns
-    returns-2
     write-all-requires
-    returns-3
+    returns-2
     same-length
-    returns-4)
+    returns-3)
