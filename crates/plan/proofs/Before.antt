@@ -13,11 +13,11 @@ use Rattle.plan.specs.Compile.{compileTold, checkedOf, fitting, compileA
 use Rattle.plan.proofs.Valid.{at-most}
 
 -- document 01, "after the last item 12, 13": "the XDL would exceed 8,192 bytes", "XDL longer than the output buffer"
-abbrev fittingBefore : Told ℕ → ℕ → Told ℕ
+abbrev pub fittingBefore : Told ℕ → ℕ → Told ℕ
 fittingBefore (done bytes) room = unless (leb bytes 8192) 12 (unless (leb bytes room) 13 (done bytes))
 fittingBefore (refused number item) room = refused number item
 
-as-before : (plan : List ℕ) (room : ℕ) → fittingBefore (compileTold (checkedOf (parse plan))) room ≡ compileAnswer plan room
+pub as-before : (plan : List ℕ) (room : ℕ) → fittingBefore (compileTold (checkedOf (parse plan))) room ≡ compileAnswer plan room
 unfolding compileAnswer
 as-before plan room = go (parse plan) refl
   where

@@ -7,6 +7,6 @@ mod Checking
 mod Writing
 pub mod Compiling
 pub mod Refused
-mod Before
+pub mod Before
 mod Cases
 mod Once

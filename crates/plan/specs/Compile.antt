@@ -34,7 +34,7 @@ compileAnswer plan room = fitting (compileTold (checkedOf (parse plan))) room
 unfoldable pub compileOutput : List ℕ → List ℕ → List ℕ
 compileOutput plan out = kept (compileAnswer plan (length out)) out (xdlBytes plan ++ drop (length (xdlBytes plan)) out)
 
--- "A plan has at most 240 lines and each item at least one, so its XDL is at most 5,280 bytes": of every plan that is read as items, which is by
--- the rules 5 to 11 alone
+-- "A plan has at most 240 lines and each item at least one, so its XDL is at most 5,280 bytes": every plan that the rules 5 to 11 let through,
+-- since `parse` knows no other
 abbrev pub AtMost : Type 0
 AtMost = (plan : List ℕ) (items : List Item) → parse plan ≡ good items → length (bytesOf items) ≤ 5280

@@ -14,7 +14,7 @@ use Rattle.refusal.specs.declared.Outcome.the-variants.{Done, Refused}
 use Rattle.refusal.proofs.Refusal.number.Kinds as number-kinds
 use Rattle.refusal.proofs.Refusal.number.Reads as number
 
--- the name at a number; at the unused ones, 0 and 12, any
+-- the name at a number; at an unused one, any
 abbrev nameOf : ℕ → Refusal
 nameOf k =
     getD (Board ∷ Board ∷ Budget ∷ Register ∷ FrameOver ∷ PlanCut ∷ NoBand ∷ Kind ∷ Length ∷ Field ∷ First ∷ Lines ∷ Board ∷ Room ∷ Address ∷ State ∷ []) k Board
