@@ -70,7 +70,8 @@ uint32_t deskboard_start(const uint32_t *board, size_t board_len, uint32_t *fram
 uint32_t deskboard_next_line(uint32_t *frame, size_t frame_len, const uint8_t *mem, size_t mem_len, uint32_t *settings, size_t settings_len);
 
 /* Compiles a plan: refusals 6, 5, 7 to 11, 13. The number of bytes goes to report[0]. 5 and 7 to 11 come with the
- * item's number from 0; of these the order is item by item, as on the sheet. 13: the output or the report is too short. */
+ * item's number from 0; of these the order is item by item, as on the sheet. 13: the output or the report is too short.
+ * A list has 5,280 bytes at most. */
 uint32_t deskboard_compile(const uint8_t *plan, size_t plan_len, uint8_t *out, size_t out_len, uint32_t *report, size_t report_len);
 
 /* Installs bytes at an address of video memory: refusals 1, 14, 13. */

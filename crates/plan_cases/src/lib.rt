@@ -35,12 +35,12 @@ fn below() {
 
 // A plan into a lent buffer: what is told.
 fn told(title: &[u8], plan: &[u8], out: &mut [u8]) {
-    let told = plan::compile(plan, out);
+    let answer = plan::compile(plan, out);
     print::text(title);
     print::text(b" into ");
     print::number(out.len() as u64);
     print::text(b": ");
-    match told {
+    match answer {
         Compiled::Done(bytes) => {
             print::number(bytes as u64);
             print::text(b" bytes\n");
