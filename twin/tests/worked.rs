@@ -40,6 +40,52 @@ fn one<C: Card>(mode: u8, s: u8, d: u8, mask: u8, code: u8) -> (u8, u32, u32) {
     (rig.mem[0x2000], rig.board[at::CODE], accesses - 21)
 }
 
+/// The manual's listing for modes 1 to 5, as it stands there.
+#[allow(unused_comparisons)]
+fn collision_sr(mask: u8, dest: u8) -> bool {
+    mask & 1 != 0 && dest >= 1 && dest <= 31
+        || mask & 2 != 0 && dest >= 32 && dest <= 63
+        || mask & 4 != 0 && dest >= 64 && dest <= 95
+        || mask & 8 != 0 && dest >= 96 && dest <= 127
+        || mask & 16 != 0 && dest >= 128 && dest <= 159
+        || mask & 32 != 0 && dest >= 160 && dest <= 191
+        || mask & 64 != 0 && dest >= 192 && dest <= 223
+        || mask & 128 != 0 && dest >= 224 && dest <= 255
+}
+
+/// And the one for mode 6, for a nibble.
+fn collision_hr(mask: u8, dest: u8) -> bool {
+    mask & 1 != 0 && dest == 1
+        || mask & 2 != 0 && dest >= 2 && dest <= 3
+        || mask & 4 != 0 && dest >= 4 && dest <= 5
+        || mask & 8 != 0 && dest >= 6 && dest <= 7
+        || mask & 16 != 0 && dest >= 8 && dest <= 9
+        || mask & 32 != 0 && dest >= 10 && dest <= 11
+        || mask & 64 != 0 && dest >= 12 && dest <= 13
+        || mask & 128 != 0 && dest >= 14 && dest <= 15
+}
+
+/// The codes after each byte of a block that goes over the colours 0 to 255 with a source of 11h.
+fn codes<C: Card>(mode: u8, mask: u8) -> Vec<u32> {
+    let mut rig = Rig::<C>::with_blocks(&[Bcb {
+        dest: 0x2000,
+        width: 256,
+        and: 0,
+        xor: 0x11,
+        collision: mask,
+        control: mode,
+        ..Bcb::default()
+    }]);
+    let colours: Vec<u8> = (0..=255).collect();
+    rig.put(0x2000, &colours);
+    rig.run(1);
+    let after = |_: u8| {
+        rig.run(1);
+        rig.board[at::CODE]
+    };
+    (0..=255).map(after).collect()
+}
+
 /// Four bytes of 5 from 2000h to 3000h, or as a fill.
 fn four(fill: bool) -> Bcb {
     Bcb {
@@ -113,6 +159,26 @@ worked! {
                 let hit = d != 0 && d / 32 == bit;
                 let code = if hit { d.into() } else { 7 };
                 assert_eq!(one::<C>(1, 1, d, 1 << bit, 7).1, code);
+            }
+        }
+    }
+
+    fn collisions_are_those_of_the_manuals_listings<C>() {
+        for mask in 0..=255 {
+            let mut byte = 0;
+            let mut nibbles = 0;
+            let found = codes::<C>(1, mask).into_iter().zip(codes::<C>(6, mask));
+            for (d, found) in (0..=255).zip(found) {
+                if collision_sr(mask, d) {
+                    byte = d;
+                }
+                if collision_hr(mask, d >> 4) {
+                    nibbles = d & 0xF0 | nibbles & 0x0F;
+                }
+                if collision_hr(mask, d & 15) {
+                    nibbles = nibbles & 0xF0 | d & 0x0F;
+                }
+                assert_eq!(found, (byte.into(), nibbles.into()), "mask {mask}, colour {d}");
             }
         }
     }

@@ -2,3 +2,4 @@
 pub mod Laws
 mod Once
 mod Rest
+mod Ranges

@@ -1,5 +1,8 @@
 ghost use mathlib.Core.Path.{_≡_};
-ghost use Prim.Native.Nat.{_*_, _<_};
+ghost use mathlib.Core.Bool.{not, _&&_};
+ghost use mathlib.Core.Logic.{_⊎_};
+ghost use Prim.Native.Nat.{_/_, _<_};
+ghost use lib.Dec.{eqb};
 ghost use Rattle.laws.specs.Bit.{bit};
 ghost use Rattle.mode.specs.Mode.{overNibble, over, valueIn, writesIn, costIn, accessesIn, hits, codeBy, codeNibbles, codeIn, strokeOf};
 
@@ -84,29 +87,66 @@ fn accesses(mode: u8, mask: u8, s: u8) -> u8
     if writes(mode, s) { cost(mode, mask) } else { 0 }
 }
 
-fn bit_of(mask: u8, k: u8) -> bool
-    requires { ⌜ k < 8 ⌝ }
-    ensures { λ r. ⌜ r ≡ bit mask k ⌝ }
+// The manual's collision_sr, line by line: the eight ranges of 32 colours, and the mask's bit for each. The
+// first begins at 1, where the manual's text says 0-31: 0 is transparent, no object's colour, so it meets nothing.
+fn collision_sr(mask: u8, d: u8) -> bool
+    ensures { λ r. ⌜ r ≡ (not (eqb d 0) && bit mask (d / 32)) ⌝ }
 {
-    (mask >> k) % 2 == 1
+    match d {
+        1..=31 => mask & 1 != 0,
+        32..=63 => mask & 2 != 0,
+        64..=95 => mask & 4 != 0,
+        96..=127 => mask & 8 != 0,
+        128..=159 => mask & 16 != 0,
+        160..=191 => mask & 32 != 0,
+        192..=223 => mask & 64 != 0,
+        224..=255 => mask & 128 != 0,
+        0 => false,
+    }
 }
 
-// A collision, by the mask's bit for the range of colours that d is in: 32 of a byte, 2 of a nibble.
+// The manual's collision_hr: the same for the eight pairs of a nibble's 16 colours. The first is 1 alone.
+fn collision_hr(mask: u8, d: u8) -> bool
+    requires { ⌜ d < 16 ⌝ }
+    ensures { λ r. ⌜ r ≡ (not (eqb d 0) && bit mask (d / 2)) ⌝ }
+{
+    match d {
+        1 => mask & 1 != 0,
+        2..=3 => mask & 2 != 0,
+        4..=5 => mask & 4 != 0,
+        6..=7 => mask & 8 != 0,
+        8..=9 => mask & 16 != 0,
+        10..=11 => mask & 32 != 0,
+        12..=13 => mask & 64 != 0,
+        14..=15 => mask & 128 != 0,
+        _ => false,
+    }
+}
+
+// A collision, by the mask's bit for the range of colours that d is in: 32 of a byte, 2 of a nibble. The commonest
+// masks are asked for first: 0 has no range's bit and 255 has each, so there is none to look for.
 fn hit(colours: u8, mask: u8, s: u8, d: u8) -> bool
-    requires { ⌜ (0 < colours) × (d < 8 * colours) ⌝ }
+    requires { ⌜ (colours ≡ 32) ⊎ ((colours ≡ 2) × (d < 16)) ⌝ }
     ensures { λ r. ⌜ r ≡ hits colours mask s d ⌝ }
 {
     if s == 0 {
         return false;
     }
-    if d == 0 {
+    if mask == 0 {
         return false;
     }
-    bit_of(mask, d / colours)
+    if mask == 255 {
+        return d != 0;
+    }
+    if colours == 32 {
+        collision_sr(mask, d)
+    } else {
+        collision_hr(mask, d)
+    }
 }
 
 fn code_by(colours: u8, mask: u8, s: u8, d: u8, code: u8) -> u8
-    requires { ⌜ (0 < colours) × (d < 8 * colours) ⌝ }
+    requires { ⌜ (colours ≡ 32) ⊎ ((colours ≡ 2) × (d < 16)) ⌝ }
     ensures { λ r. ⌜ r ≡ codeBy colours mask s d code ⌝ }
 {
     if hit(colours, mask, s, d) { d } else { code }

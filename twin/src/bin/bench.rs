@@ -302,6 +302,15 @@ fn workloads() -> Vec<Workload> {
         big("mode 1, collision mask 255, 7 blocks", 1, |block| {
             block[17] = 255;
         }),
+        big("mode 1, mask AA, random bytes", 1, |block| {
+            block[17] = 0xAA;
+        }),
+        // Its own colour is drawn over an area of that colour, which stands in a range whose bit is set.
+        big("mode 1, mask AA, over one colour", 1, |block| {
+            block[15] = 0;
+            block[16] = 0xB6;
+            block[17] = 0xAA;
+        }),
         big("mode 6, collision mask 255, 7 blocks", 6, |block| {
             block[17] = 255;
         }),

@@ -1,4 +1,6 @@
 -- `mode::code_in` meets its contract. Assumes nothing.
+use mathlib.Core.Path.{refl}
+use mathlib.Core.Logic.{inl}
 use lib.ListN.{List·getD-eq-default}
 use Rattle.mode.specs.Mode.{codeIn, codeByte}
 use Rattle.mode.proofs.Rest.{past7}
@@ -7,19 +9,19 @@ use Rattle.mode.proofs.code_in.Statement.{statement}
 use Rattle.mode.proofs.code_in.Tie as tie
 
 code-by-requires : tie.Need-code-by-requires
-code-by-requires c κs = search needs
+code-by-requires c κs = inl refl
 
 code-by-requires-2 : tie.Need-code-by-requires-2
-code-by-requires-2 c κs = search needs
+code-by-requires-2 c κs = inl refl
 
 code-by-requires-3 : tie.Need-code-by-requires-3
-code-by-requires-3 c κs = search needs
+code-by-requires-3 c κs = inl refl
 
 code-by-requires-4 : tie.Need-code-by-requires-4
-code-by-requires-4 c κs = search needs
+code-by-requires-4 c κs = inl refl
 
 code-by-requires-5 : tie.Need-code-by-requires-5
-code-by-requires-5 c κs = search needs
+code-by-requires-5 c κs = inl refl
 
 code-nibbles-requires : tie.Need-code-nibbles-requires
 code-nibbles-requires c κs = search needs
