@@ -123,8 +123,8 @@ fn collision_hr(mask: u8, d: u8) -> bool
     }
 }
 
-// A collision, by the mask's bit for the range of colours that d is in: 32 of a byte, 2 of a nibble. The commonest
-// masks are asked for first: 0 has no range's bit and 255 has each, so there is none to look for.
+// A collision, by the mask's bit for the range of colours that d is in: 32 of a byte, 2 of a nibble. Two masks are
+// asked for first: 0 has no range's bit and 255 has each, so there is none to look for.
 fn hit(colours: u8, mask: u8, s: u8, d: u8) -> bool
     requires { ⌜ (colours ≡ 32) ⊎ ((colours ≡ 2) × (d < 16)) ⌝ }
     ensures { λ r. ⌜ r ≡ hits colours mask s d ⌝ }
