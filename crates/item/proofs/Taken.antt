@@ -6,10 +6,10 @@ use Prim.Native.Nat.{ℕ, _+_, _-_, _≤_}
 use native.Mathlib.Omega.{arith}
 use lib.Dec.{eqb, ltb, leb}
 use lib.ListN.{length}
-use borrow.Author.Tests.{leb-true, eqb-true}
+use borrow.Author.Tests.{le-leb, leb-true, eqb-true}
 use Rattle.refusal.specs.declared.Refusal.{Refusal}
 use Rattle.refusal.specs.declared.Refusal.the-variants.{PlanCut, Kind, Length, Field, First, Lines}
-use Rattle.item.specs.Item.{number2, soundItem, linesOf, isFull, bodySize, bodyAt, must, fitted, itemAt}
+use Rattle.item.specs.Item.{number2, soundItem, linesOf, isFull, bodySize, bodyAt, must, fitted, itemAt, knownAt}
 use Rattle.item.specs.declared.Item.{Item}
 use Rattle.item.specs.declared.Read.{Read}
 use Rattle.item.specs.declared.Read.the-variants.{Is}
@@ -64,3 +64,10 @@ taken s at n total it next e =
       within = omega arith;
       fits = rw same at (g .1);
     }
+
+-- an item that was taken is read again
+pub taken-again : (s : List ℕ) (at n total : ℕ) (it : Item) (next : ℕ) → itemAt s at n total ≡ Is it next → knownAt s at ≡ Is it next
+unfolding knownAt
+taken-again s at n total it next e =
+    let i = taken s at n total it next e in
+    simp (le-leb (4 + bodySize (number2 s (at + 2))) (length s - at) (omega (arith, i .behind, i .within)), i .body, i .behind)

@@ -130,6 +130,13 @@ itemAt s at n total =
     (must (leb (4 + size) (length s - at)) PlanCut
     (fitted (bodyAt s (at + 4) kind) n total (at + 4 + size)))))
 
+-- the item at a place where one was read before: nothing is asked but that its bytes are there
+unfoldable pub knownAt : List ℕ → ℕ → Read
+knownAt s at =
+    let kind = number2 s (at + 2) in
+    let size = bodySize kind in
+    must (leb (4 + size) (length s - at)) PlanCut (Is (bodyAt s (at + 4) kind) (at + 4 + size))
+
 -- what is told of the item at a place: the item and where the next begins
 pub record ItemRead : Type 0 where
   pub item : Item

@@ -1,7 +1,7 @@
 ghost use mathlib.Core.Path.{_≡_};
-ghost use Prim.Native.Nat.{_+_, _≤_};
+ghost use Prim.Native.Nat.{_+_, _-_, _≤_};
 ghost use lib.ListN.{length};
-ghost use Rattle.item.specs.Item.{number2, number3, fullAt, runningAt, soundFull, soundRunning, soundItem, linesOf, isFull, bodySize, bodyAt, fitted, itemTold, itemAnswer};
+ghost use Rattle.item.specs.Item.{number2, number3, fullAt, runningAt, soundFull, soundRunning, soundItem, linesOf, isFull, bodySize, bodyAt, fitted, itemTold, itemAnswer, knownAt};
 use refusal::Refusal;
 
 // Kind 1, a full band, field by field as the plan has it.
@@ -215,15 +215,22 @@ fn body_at(plan: &[u8], at: usize, kind: u16) -> Item
     Item::Running(running_at(plan, at))
 }
 
+// How many bytes a plan has from a place on.
+fn left_at(plan: &[u8], at: usize) -> usize
+    ensures { λ r. ⌜ r ≡ length (now (plan .entry)) - at ⌝ }
+{
+    if plan.len() < at {
+        return 0;
+    }
+    plan.len() - at
+}
+
 // The item at a place of a plan: n is its number, total the lines of the items before it.
-// 5 header, 7 kind, 8 length, 5 body, then the item's own. Both passes of the compiler read by this.
+// 5 header, 7 kind, 8 length, 5 body, then the item's own. The compiler's first pass reads by this.
 pub fn item_at(plan: &[u8], at: usize, n: u32, total: u8) -> Read
     ensures { λ r. ⌜ itemTold n r ≡ itemAnswer (now (plan .entry)) at n total ⌝ }
 {
-    if plan.len() < at {
-        return Read::Bad(Refusal::PlanCut);
-    }
-    let left = plan.len() - at;
+    let left = left_at(plan, at);
     if left < 4 {
         return Read::Bad(Refusal::PlanCut);
     }
@@ -240,4 +247,22 @@ pub fn item_at(plan: &[u8], at: usize, n: u32, total: u8) -> Read
     }
     let it = body_at(plan, at + 4, kind);
     fitting(it, n, total, at + 4 + size as usize)
+}
+
+// The item at a place where one was read before: nothing is tested but that its bytes are there. The compiler's second pass
+// reads by this. Each kind answers by itself and not through `body_at`, so that the item need not go through memory.
+pub fn known_at(plan: &[u8], at: usize) -> Read
+    ensures { λ r. ⌜ r ≡ knownAt (now (plan .entry)) at ⌝ }
+{
+    let left = left_at(plan, at);
+    if left < 4 + 7 {
+        return Read::Bad(Refusal::PlanCut);
+    }
+    if number_2(plan, at + 2) != 1 {
+        return Read::Is(Item::Running(running_at(plan, at + 4)), at + 4 + 7);
+    }
+    if left < 4 + 23 {
+        return Read::Bad(Refusal::PlanCut);
+    }
+    Read::Is(Item::Full(full_at(plan, at + 4)), at + 4 + 23)
 }

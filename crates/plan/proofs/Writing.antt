@@ -10,21 +10,21 @@ use lib.Seq.{length-take-le}
 use borrow.Rule.Slice.PartMut.{putMid}
 use Rattle.laws.proofs.Lent.{tail-lent, filled}
 use Rattle.refusal.specs.declared.Refusal.{Refusal}
-use Rattle.item.specs.Item.{soundItem, linesOf, itemAt}
+use Rattle.item.specs.Item.{soundItem, linesOf, itemAt, knownAt}
 use Rattle.item.specs.declared.Item.{Item}
+use Rattle.item.specs.declared.Read.{Read}
 use Rattle.item.specs.declared.Read.the-variants.{Is, Bad}
-use Rattle.item.proofs.Ranges.{some-line}
-use Rattle.item.proofs.Taken.{taken}
+use Rattle.item.proofs.Taken.{Taken, taken, taken-again}
 use Rattle.plan.specs.Plan.{Parsed, good, bad, with, rest, parse, itemsOf}
 use Rattle.plan.specs.Xdl.{recordOf, sizeOf, isEmpty, bytesOf, xdlBytes}
 use Rattle.plan.proofs.Walk.{bad-good, rest-end, rest-bad, rest-item, TailGood, tail-good, last-is, parse-taken, xdl-rest}
 use Rattle.plan.proofs.Records.{length-record}
 
-pub record Writing (s first out : List ℕ) (at n total to : ℕ) : Type 0 where
-  pub within : at ≤ length s
+-- the pass itself counts neither items nor lines: n and total are what the first pass had at this place
+pub record Writing (s first out : List ℕ) (at to : ℕ) : Type 0 where
+  pub n : ℕ
+  pub total : ℕ
   pub numbered : n ≤ at
-  pub few : n ≤ total
-  pub lines : total ≤ 240
   pub long : length out ≡ length first
   pub well : rest s at n total ≡ good (itemsOf (rest s at n total))
   pub room : to + length (bytesOf (itemsOf (rest s at n total))) ≤ length out
@@ -32,15 +32,14 @@ pub record Writing (s first out : List ℕ) (at n total to : ℕ) : Type 0 where
   pub kept : drop to out ≡ drop to first
 
 pub write-start :
-    (s out : List ℕ) → parse s ≡ good (itemsOf (parse s)) → length (xdlBytes s) ≤ length out → Writing s out out 0 0 0 0
+    (s out : List ℕ) → parse s ≡ good (itemsOf (parse s)) → length (xdlBytes s) ≤ length out → Writing s out out 0 0
 write-start s out g h =
     let e = parse-taken s (itemsOf (parse s)) g in
     let room = rw (xdl-rest s e) at h in
     record {
-      within = zero-le;
+      n = 0;
+      total = 0;
       numbered = zero-le;
-      few = zero-le;
-      lines = zero-le;
       long = refl;
       well = rw e at g;
       room = omega arith;
@@ -48,22 +47,46 @@ write-start s out g h =
       kept = refl;
     }
 
-module _ (s first out : List ℕ) (at n total to : ℕ) (w : Writing s first out at n total to) (lt : at < length s) where
-  -- no item is refused in this pass
-  pub write-never : {A : Type 0} (why : Refusal) → itemAt s at n total ≡ Bad why → A
-  write-never why e = bad-good why n _ (sym (rest-bad s at n total lt (w .numbered) why e) ∙ w .well)
+module _ (s first out : List ℕ) (at to : ℕ) (w : Writing s first out at to) (lt : at < length s) where
+  abbrev n : ℕ
+  n = w .n
 
-  module _ (it : Item) (next : ℕ) (e : itemAt s at n total ≡ Is it next) where
+  abbrev total : ℕ
+  total = w .total
+
+  -- the first pass refused none
+  refused : {A : Type 0} (why : Refusal) → itemAt s at n total ≡ Bad why → A
+  refused why e = bad-good why n _ (sym (rest-bad s at n total lt (w .numbered) why e) ∙ w .well)
+
+  -- so this one reads what that took
+  again : itemAt s at n total ≡ knownAt s at
+  again = go (itemAt s at n total) refl
+    where
+      go : (r : Read) → itemAt s at n total ≡ r → itemAt s at n total ≡ knownAt s at
+      go (Is it next) e = e ∙ sym (taken-again s at n total it next e)
+      go (Bad why) e = refused why e
+
+  -- and refuses none either
+  pub write-never : {A : Type 0} (why : Refusal) → knownAt s at ≡ Bad why → A
+  write-never why e = refused why (again ∙ e)
+
+  module _ (it : Item) (next : ℕ) (known : knownAt s at ≡ Is it next) where
+    read : itemAt s at n total ≡ Is it next
+    read = again ∙ known
+
+    pub write-taken : Taken s at n total it next
+    write-taken = taken s at n total it next read
+
     abbrev later : Parsed
     later = rest s next (n + 1) (total + linesOf it)
 
     step : TailGood it later (itemsOf (rest s at n total))
-    step = tail-good it later (itemsOf (rest s at n total)) (sym (rest-item s at n total lt (w .numbered) it next e) ∙ w .well)
+    step = tail-good it later (itemsOf (rest s at n total)) (sym (rest-item s at n total lt (w .numbered) it next read) ∙ w .well)
 
     -- the record comes next, with END where the plan's bytes end
     bytes : bytesOf (itemsOf (rest s at n total)) ≡ recordOf it (eqb next (length s)) ++ bytesOf (itemsOf later)
     bytes =
-        let i = taken s at n total it next e in
+        let i = write-taken in
         ap bytesOf (step .items)
         ∙ ap (λ (b : Bool). recordOf it b ++ bytesOf (itemsOf later))
         (sym (last-is s next (n + 1) (total + linesOf it) (itemsOf later) (omega (arith, w .numbered)) (i .within) (step .tail)))
@@ -75,23 +98,21 @@ module _ (s first out : List ℕ) (at n total to : ℕ) (w : Writing s first out
 
     -- what the record writer asks of the rest that it is lent
     pub write-may : (sizeOf it ≤ length (take (length out - to) (drop to out))) × (soundItem it ≡ true)
-    write-may = (rw tail-lent (simp length-drop (omega (arith, write-fits))), taken s at n total it next e .fits .sound)
+    write-may = (rw tail-lent (simp length-drop (omega (arith, write-fits))), write-taken .fits .sound)
 
-    -- a record is written: its size and the item's lines as the code has them
+    -- a record is written: its size as the code has it
     pub write-turn :
-        (k t : ℕ) (ys : List ℕ) → k ≡ sizeOf it → t ≡ linesOf it
+        (k : ℕ) (ys : List ℕ) → k ≡ sizeOf it
         → ys ≡ recordOf it (eqb next (length s)) ++ drop (sizeOf it) (take (length out - to) (drop to out))
-        → Writing s first (putMid to (length out - to) out ys) next (n + 1) (total + t) (to + k)
-    write-turn k t ys ek et ey =
-        let i = taken s at n total it next e in
-        let one = some-line it (i .fits .sound) in
+        → Writing s first (putMid to (length out - to) out ys) next (to + k)
+    write-turn k ys ek ey =
+        let i = write-taken in
         let f = filled first out (recordOf it (eqb next (length s))) ys to (sizeOf it) (length-record it _) (omega (arith, write-fits)) (w .kept) ey in
-        rw (ek, et)
+        rw ek
         (record {
-          within = i .within;
-          numbered = omega (arith, w .numbered);
-          few = omega (arith, w .few);
-          lines = i .fits .lines;
+          n = n + 1;
+          total = total + linesOf it;
+          numbered = omega (arith, w .numbered, i .on);
           long = f .long ∙ w .long;
           well = step .tail;
           room = subst (λ (k : ℕ). to + sizeOf it + length (bytesOf (itemsOf later)) ≤ k) (sym (f .long)) write-fits;
@@ -103,10 +124,10 @@ module _ (s first out : List ℕ) (at n total to : ℕ) (w : Writing s first out
         })
 
 pub write-end :
-    (s first out : List ℕ) (at n total to : ℕ) → parse s ≡ good (itemsOf (parse s)) → Writing s first out at n total to → length s ≤ at
+    (s first out : List ℕ) (at to : ℕ) → parse s ≡ good (itemsOf (parse s)) → Writing s first out at to → length s ≤ at
     → out ≡ xdlBytes s ++ drop (length (xdlBytes s)) first
-write-end s first out at n total to g w h =
-    let nil : itemsOf (rest s at n total) ≡ [] = ap itemsOf (rest-end s at n total h) in
+write-end s first out at to g w h =
+    let nil : itemsOf (rest s at (w .n) (w .total)) ≡ [] = ap itemsOf (rest-end s at (w .n) (w .total) h) in
     let all : take to out ≡ bytesOf (itemsOf (rest s 0 0 0)) =
     sym (append-nil (take to out)) ∙ (ap (λ (z : List Item). take to out ++ bytesOf z) (sym nil) ∙ w .sofar) in
     let count : to ≡ length (bytesOf (itemsOf (rest s 0 0 0))) = sym (length-take-le to out (omega (arith, w .room))) ∙ ap length all in

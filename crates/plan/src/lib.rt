@@ -151,26 +151,23 @@ fn check(plan: &[u8]) -> Compiled
     Compiled::Done(bytes)
 }
 
-// The second pass: the rest of the output, from its middle on, is lent to the record writer.
+// The second pass: the first found every item sound, so none is tested again, and none is refused.
+// The rest of the output, from its middle on, is lent to the record writer.
 fn write_all(plan: &[u8], out: &mut [u8])
     requires { ⌜ (parse (now plan) ≡ good (itemsOf (parse (now plan)))) × (length (xdlBytes (now plan)) ≤ length (now out)) ⌝ }
     ensures { λ _. ⌜ now (out .exit) ≡ xdlBytes (now (plan .entry)) ++ drop (length (xdlBytes (now (plan .entry)))) (now (out .entry)) ⌝ }
 {
     let mut at = 0;
-    let mut n = 0;
-    let mut total = 0;
     let mut to = 0;
     while at < plan.len() {
-        let r = item::item_at(plan, at, n, total);
+        let r = item::known_at(plan, at);
         match r {
             Read::Bad(_) => {
                 return;
             }
             Read::Is(it, next) => {
                 to += write_record(&mut out[to..], it, next == plan.len());
-                total += item::lines_of(it);
                 at = next;
-                n += 1;
             }
         }
     }
