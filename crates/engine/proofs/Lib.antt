@@ -6,6 +6,7 @@ mod Reaching
 mod Strokes
 mod Steps
 mod Bursts
+mod FlatBursts
 mod Going
 pub mod Machine
 pub mod Whole

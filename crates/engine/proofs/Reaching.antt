@@ -1,19 +1,20 @@
 -- How far a place's stretch reaches, and the place k bytes on. Assumes nothing.
-use mathlib.Core.Path.{_≡_, refl, sym, ap, _∙_}
+use mathlib.Core.Path.{_≡_, refl, sym, ap, subst, _∙_}
 use mathlib.Core.Bool.{Bool, true, false, cond, _&&_}
 use mathlib.Core.Logic.{_⊎_, inl, inr, ⊎-elim}
 use Prim.Native.Nat.{ℕ, zero, suc, _+_, _-_, _*_, _/_, _%_, _≤_, _<_}
 use native.Mathlib.Nat.{mod-lt, mod-one, div-one}
 use native.Mathlib.Omega.{arith}
 use lib.Dec.{eqb}
-use borrow.Author.Tests.{eqb-true}
+use borrow.Author.Tests.{eqb-true, lt-ltb, le-ltb}
 use Rattle.laws.proofs.Choice.{both}
 use Rattle.block.specs.Block.{zoomX, zoomY, patternOf, columnsOf, rowsOf}
 use Rattle.block.specs.declared.Block.{Block}
 use Rattle.block.proofs.Place.{far-col}
 use Rattle.block.proofs.Sizes.{columns-small, rows-small, pattern-pos}
+use Rattle.blitter.proofs.Sound.{Inside}
 use Rattle.engine.specs.declared.Place.{Place}
-use Rattle.engine.specs.Engine.{placeAt, Placed, Column, Row, Reach, tallOf, aheadRow, aheadCol}
+use Rattle.engine.specs.Engine.{placeAt, Placed, Column, Row, Reach, tallOf, aheadRow, aheadCol, afterRow, afterCol}
 use Rattle.engine.proofs.Following.{down-is, across-is, sourcerow-is, sourcecol-is}
 
 true-false : {A : Type 0} → true ≡ false → A
@@ -56,6 +57,14 @@ module _ (b : Block) (p : Place) (q : Placed b p) where
     pub col-room : tallOf b ≡ false → p .col + k < columnsOf b
     col-room f = omega (arith, as-row f .left)
 
+    -- and inside the block
+    pub ahead-in : Inside b (aheadRow b (p .row) k) (aheadCol b (p .col) k)
+    ahead-in =
+        ⊎-elim
+        (λ c. rw (c .tall) (record { row-in = omega (arith, c .left); col-in = q .col-in }))
+        (λ w. rw (w .wide) (record { row-in = q .row-in; col-in = omega (arith, w .left) }))
+        r
+
     pub ahead-down : tallOf b ≡ true
         → record { row = p .row + k; col = p .col; down = p .down; across = p .across; sourcerow = p .sourcerow + k; sourcecol = p .sourcecol }
         ≡ placeAt b (aheadRow b (p .row) k) (aheadCol b (p .col) k)
@@ -90,6 +99,26 @@ module _ (b : Block) (p : Place) (q : Placed b p) where
         ahead-along t (p .across + k) (p .sourcecol)
         (ap (λ (x : ℕ). x + k) (across-is b p (q .at)) ∙ sym (far .1))
         (sourcecol-is b p (q .at) ∙ ap (λ (x : ℕ). x % patternOf b) (sym (far .0)))
+
+-- behind so many bytes, l being the place of the last
+module _ (b : Block) (p : Place) (q : Placed b p) (count : ℕ) (some : 0 < count) (r : Reach b (p .row) (p .col) count) (l : Place) (e : l ≡ placeAt b (aheadRow b (p .row) (count - 1)) (aheadCol b (p .col) (count - 1))) where
+  pub last-at : l ≡ placeAt b (l .row) (l .col)
+  last-at = rw e refl
+
+  pub last-inside : Inside b (l .row) (l .col)
+  last-inside =
+      let one : count ≡ count - 1 + 1 = omega arith in
+      rw e (ahead-in b p q (count - 1) (subst (Reach b (p .row) (p .col)) one r))
+
+  pub behind-col : l .col + 1 < columnsOf b → placeAt b (l .row) (l .col + 1) ≡ placeAt b (afterRow b (p .row) (p .col) count) (afterCol b (p .col) count)
+  behind-col h =
+      let near : aheadCol b (p .col) (count - 1) + 1 < columnsOf b = omega (arith, ap (λ (x : Place). x .col) e) in
+      rw (e, lt-ltb (aheadCol b (p .col) (count - 1) + 1) (columnsOf b) near)
+
+  pub behind-row : columnsOf b ≤ l .col + 1 → placeAt b (l .row + 1) 0 ≡ placeAt b (afterRow b (p .row) (p .col) count) (afterCol b (p .col) count)
+  behind-row h =
+      let far : columnsOf b ≤ aheadCol b (p .col) (count - 1) + 1 = omega (arith, ap (λ (x : Place). x .col) e) in
+      rw (e, le-ltb (aheadCol b (p .col) (count - 1) + 1) (columnsOf b) far)
 
 -- no reach is long
 pub reach-small : (b : Block) (row col n : ℕ) → b .height < 256 → b .width0 < 256 → Reach b row col n → n ≤ 4096

@@ -4,16 +4,18 @@ use mathlib.Core.Bool.{Bool, true, false, cond, _&&_}
 use mathlib.Core.List.{List}
 use mathlib.Core.Logic.{_⊎_}
 use Prim.Native.Nat.{ℕ, _+_, _-_, _*_, _/_, _%_, _≤_, _<_}
-use lib.Dec.{eqb}
+use lib.Dec.{eqb, leb, ltb}
 use lib.ListN.{length}
 use Rattle.vram.specs.Memory.{goodLength}
 use Rattle.step.specs.Step.{acrossOf, downOf}
 use Rattle.block.specs.Block.{zoomX, zoomY, patternOf, columnsOf, rowsOf, destAddress, sourceAddress}
 use Rattle.block.specs.declared.Block.{Block}
 use Rattle.stretch.specs.declared.Stretch.{Stretch}
+use Rattle.stretch.specs.Flat.{levelOf}
 use Rattle.blitter.specs.declared.Blitter.{Blitter}
 use Rattle.blitter.specs.State.{soundBlitter}
 use Rattle.engine.specs.declared.Place.{Place}
+use Rattle.engine.specs.Tick.{ended}
 use Rattle.engine.specs.Run.{runFor, running}
 
 -- a place in a block, with "floor(row/ZY)" and "floor(col/ZX) mod Q", and what those divisions leave
@@ -67,10 +69,32 @@ aheadRow b row k = cond (tallOf b) (row + k) row
 abbrev pub aheadCol : Block → ℕ → ℕ → ℕ
 aheadCol b col k = cond (tallOf b) col (col + k)
 
+-- the row and the column behind so many bytes: the next column, or the first of the next row
+abbrev pub afterRow : Block → ℕ → ℕ → ℕ → ℕ
+afterRow b row col k =
+    let last = aheadRow b row (k - 1) in
+    cond (ltb (aheadCol b col (k - 1) + 1) (columnsOf b)) last (last + 1)
+
+abbrev pub afterCol : Block → ℕ → ℕ → ℕ
+afterCol b col k =
+    let last = aheadCol b col (k - 1) in
+    cond (ltb (last + 1) (columnsOf b)) (last + 1) 0
+
+-- the stretches of a block have the steps of flat ones
+abbrev pub levelBlock : Block → Bool
+levelBlock b = levelOf b (sourceStep b) (destStep b)
+
 -- a stretch of so many bytes
 abbrev pub stretchAt : Block → ℕ → ℕ → ℕ → Stretch
 stretchAt b row col count =
     record { from = sourceAddress b row col; along = sourceStep b; to = destAddress b row col; step = destStep b; count = count }
+
+-- the blitter at a place that a burst has come to, or behind the block's last row
+abbrev pub leftAt : Blitter → ℕ → ℕ → ℕ → Blitter
+leftAt b row col code =
+    cond (leb (rowsOf (b .block)) row)
+    (ended b code)
+    (record { irqe = b .irqe; irqf = b .irqf; list = b .list; flags = b .flags; code = code; block = b .block; row = row; col = col })
 
 -- what a burst is handed: a busy blitter, and budget left
 pub record BurstFrom (b : Blitter) (mem : List ℕ) (ticks accesses budget : ℕ) : Type 0 where

@@ -6,11 +6,12 @@ ghost use Rattle.vram.specs.Memory.{goodLength};
 ghost use Rattle.blitter.specs.State.{soundBlitter};
 ghost use Rattle.engine.specs.Tick.{loadTick, ended};
 ghost use Rattle.engine.specs.Run.{runFor, running, begun, runTold, runAnswer, runBlitter, runMemory};
-ghost use Rattle.engine.specs.Engine.{placeAt, tallOf, sourceStep, destStep, aheadRow, aheadCol, stretchAt, Placed, Reach, BurstFrom, BurstTo};
+ghost use Rattle.engine.specs.Engine.{placeAt, tallOf, sourceStep, destStep, aheadRow, aheadCol, afterRow, afterCol, levelBlock, stretchAt, leftAt, Placed, Reach, BurstFrom, BurstTo};
 use blitter::Blitter;
 use block::Block;
 use refusal::Refusal;
 use stretch::Stretch;
+use stretch::flat;
 
 // What a run reports: ticks done and accesses made, or why it is refused.
 pub enum RunReport {
@@ -141,6 +142,18 @@ impl Place {
         self
     }
 
+    // The place behind so many bytes of a stretch. Behind the block's last byte it is the first of a row that is not there.
+    fn after(self, block: Block, count: u32) -> Place
+        requires { ⌜ Placed block self × (0 < count) × Reach block (self .row) (self .col) count ⌝ }
+        ensures { λ r. ⌜ r ≡ placeAt block (afterRow block (self .row) (self .col) count) (afterCol block (self .col) count) ⌝ }
+    {
+        let last = self.ahead(block, count - 1);
+        if last.col + 1 < block.columns() as u32 {
+            return last.next_col(block);
+        }
+        last.next_row(block)
+    }
+
     // How many bytes from here on are the two steps apart: all that are left of a tall block; else those left of the
     // row, of the pattern's columns or of the columns that show one source byte.
     fn reach(self, block: Block) -> u32
@@ -226,9 +239,9 @@ fn end(mut blitter: Blitter, code: u8) -> Blitter
     blitter
 }
 
-// The byte ticks of one block, until the block or the budget ends, a stretch at a time. The block stands in a
+// The byte ticks of one block, a stretch at a time. The block stands in a
 // local that the loop never assigns, so that it is taken apart once.
-fn burst(mut blitter: Blitter, mem: &mut [u8], ticks: u32, accesses: u32, budget: u32) -> Sofar
+fn burst_each(mut blitter: Blitter, mem: &mut [u8], ticks: u32, accesses: u32, budget: u32) -> Sofar
     requires { ⌜ BurstFrom blitter (now mem) ticks accesses budget ⌝ }
     ensures { λ r. ⌜ BurstTo blitter (now (mem .entry)) ticks accesses budget (r .blitter) (now (mem .exit)) (r .ticks) (r .accesses) ⌝ }
 {
@@ -268,6 +281,74 @@ fn burst(mut blitter: Blitter, mem: &mut [u8], ticks: u32, accesses: u32, budget
         ticks: done,
         accesses: made,
     }
+}
+
+// The blitter at a place that a burst has come to, or behind the block's last byte.
+fn leave(mut blitter: Blitter, place: Place, code: u8, ticks: u32, accesses: u32) -> Sofar
+    requires { ⌜ (place .row < 65536) × (place .col < 65536) ⌝ }
+    ensures { λ r. ⌜ (r .blitter ≡ leftAt blitter (place .row) (place .col) code) × (r .ticks ≡ ticks) × (r .accesses ≡ accesses) ⌝ }
+{
+    let block = blitter.block;
+    if block.rows() as u32 <= place.row {
+        let blitter = end(blitter, code);
+        return Sofar {
+            blitter,
+            ticks,
+            accesses,
+        };
+    }
+    blitter.row = place.row as u16;
+    blitter.col = place.col as u16;
+    blitter.code = code;
+    Sofar {
+        blitter,
+        ticks,
+        accesses,
+    }
+}
+
+// The same of a block whose stretches are flat, each up to a wrap. The loops over them stand apart from the others', or
+// the compiler runs out of registers in both.
+fn burst_flat(blitter: Blitter, mem: &mut [u8], ticks: u32, accesses: u32, budget: u32) -> Sofar
+    requires { ⌜ BurstFrom blitter (now mem) ticks accesses budget × (levelBlock (blitter .block) ≡ true) ⌝ }
+    ensures { λ r. ⌜ BurstTo blitter (now (mem .entry)) ticks accesses budget (r .blitter) (now (mem .exit)) (r .ticks) (r .accesses) ⌝ }
+{
+    let block = blitter.block;
+    let rows = block.rows() as u32;
+    let mut place = place_of(block, blitter.row, blitter.col);
+    let mut code = blitter.code;
+    let mut done = ticks;
+    let mut made = accesses;
+    while (place.row < rows) & (done < budget) {
+        let most = least(place.reach(block), budget - done);
+        let bytes = place.stretch(block, most);
+        let part = flat::draw(block, mem, bytes, code);
+        code = part.code;
+        made += part.accesses;
+        done += part.count;
+        place = place.after(block, part.count);
+    }
+    leave(blitter, place, code, done, made)
+}
+
+// Whether a block's stretches are drawn at once: they are flat, and not too short for it to be worth while.
+fn at_once(block: Block) -> bool
+    ensures { λ r. ⌜ (r ≡ true → levelBlock block ≡ true) ⌝ }
+{
+    let first = place_of(block, 0, 0);
+    (8 <= first.reach(block)) & flat::level(block, source_step(block), dest_step(block))
+}
+
+// The byte ticks of one block, until the block or the budget ends.
+fn burst(blitter: Blitter, mem: &mut [u8], ticks: u32, accesses: u32, budget: u32) -> Sofar
+    requires { ⌜ BurstFrom blitter (now mem) ticks accesses budget ⌝ }
+    ensures { λ r. ⌜ BurstTo blitter (now (mem .entry)) ticks accesses budget (r .blitter) (now (mem .exit)) (r .ticks) (r .accesses) ⌝ }
+{
+    let block = blitter.block;
+    if at_once(block) {
+        return burst_flat(blitter, mem, ticks, accesses, budget);
+    }
+    burst_each(blitter, mem, ticks, accesses, budget)
 }
 
 // Ticks until the budget is used or the flags are 0: loads, and bursts over one block each.

@@ -1,7 +1,9 @@
--- How large the entries of the mode table are, from bytes. Assumes nothing.
-use mathlib.Core.Bool.{Bool, cond}
+-- How large the entries of the mode table are, from bytes; and that no code is left without a mask. Assumes nothing.
+use mathlib.Core.Path.{_≡_, refl}
+use mathlib.Core.Bool.{Bool, not, cond, _&&_, and-false}
 use mathlib.Core.List.{List, [], _∷_}
-use Prim.Native.Nat.{ℕ, zero, suc, _+_, _*_, _/_, _%_, _≤_, _<_}
+use Prim.Native.Nat.{ℕ, zero, suc, _+_, _*_, _/_, _%_, _^_, _≤_, _<_}
+use native.Mathlib.Nat.{zero-div}
 use native.Mathlib.Omega.{arith}
 use lib.Bits.{or-lt, and-lt, xor-lt}
 use lib.Dec.{eqb}
@@ -82,3 +84,16 @@ cost-small mode mask =
 pub accesses-small : (mode mask s : ℕ) → accessesIn mode mask s ≤ 2
 unfolding accessesIn
 accesses-small mode mask s = by-cond (λ (v : ℕ). v ≤ 2) (writesIn mode s) (costIn mode mask) 0 (λ _. cost-small mode mask) (λ _. omega arith)
+
+-- where no bit of the mask is set the code stays
+no-hit : (colours s d code : ℕ) → codeBy colours 0 s d code ≡ code
+unfolding codeBy hits
+no-hit colours s d code = rw (zero-div (2 ^ (d / colours)), and-false (not (eqb s 0) && not (eqb d 0)))
+
+pub code-stays : (mode mask s d code : ℕ) → mask ≡ 0 → codeIn mode mask s d code ≡ code
+unfolding codeIn codeByte codeNibbles
+code-stays mode mask s d code z =
+    let whole : codeBy 32 mask s d code ≡ code = rw z (no-hit 32 s d code) in
+    let halves : codeBy 2 mask (s / 16) (d / 16) (code / 16) * 16 + codeBy 2 mask (s % 16) (d % 16) (code % 16) ≡ code =
+    rw (z, no-hit 2 (s / 16) (d / 16) (code / 16), no-hit 2 (s % 16) (d % 16) (code % 16)) (omega arith) in
+    entry (λ (v : ℕ). v ≡ code) (one refl (one whole (one whole (one whole (one whole (one whole (one halves none))))))) mode code refl

@@ -29,7 +29,7 @@ fn over_byte(s: u8, d: u8) -> u8
 }
 
 // The columns of the mode table. Mode 7 does nothing.
-fn value(mode: u8, s: u8, d: u8) -> u8
+pub fn value(mode: u8, s: u8, d: u8) -> u8
     ensures { λ r. ⌜ r ≡ valueIn mode s d ⌝ }
 {
     match mode {
@@ -44,7 +44,7 @@ fn value(mode: u8, s: u8, d: u8) -> u8
     }
 }
 
-fn writes(mode: u8, s: u8) -> bool
+pub fn writes(mode: u8, s: u8) -> bool
     ensures { λ r. ⌜ r ≡ writesIn mode s ⌝ }
 {
     match mode {
@@ -66,7 +66,7 @@ fn cost_1(mask: u8) -> u8
     if mask == 0 { 1 } else { 2 }
 }
 
-fn cost(mode: u8, mask: u8) -> u8
+pub fn cost(mode: u8, mask: u8) -> u8
     ensures { λ r. ⌜ r ≡ costIn mode mask ⌝ }
 {
     match mode {

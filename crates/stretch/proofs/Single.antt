@@ -35,7 +35,7 @@ unfolding readsSource
 reads-none b m = rw m (and-false (not (eqb (b .andmask) 0)))
 
 -- so the source byte may be read where it counts for nothing
-masked-read : (b : Block) (mem : List ℕ) (from : ℕ) → (modeOf b ≡ 7 → ⊥) → bitXor (bitAnd (cond (readsSource b) (cellAt mem from) 0) (b .andmask)) (b .xormask) ≡ masked b mem from
+pub masked-read : (b : Block) (mem : List ℕ) (from : ℕ) → (modeOf b ≡ 7 → ⊥) → bitXor (bitAnd (cond (readsSource b) (cellAt mem from) 0) (b .andmask)) (b .xormask) ≡ masked b mem from
 masked-read b mem from h = by-test (eqb (b .andmask) 0) refl
   where
     by-test : (t : Bool) → eqb (b .andmask) 0 ≡ t → bitXor (bitAnd (cond (readsSource b) (cellAt mem from) 0) (b .andmask)) (b .xormask) ≡ masked b mem from

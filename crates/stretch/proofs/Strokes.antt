@@ -16,13 +16,13 @@ use Rattle.block.specs.declared.Struck.{Struck}
 use Rattle.stretch.specs.Stretch.{Drawing, drawing, strokeBy, struck, strokes}
 
 -- a byte less is left, or none
-less : (count k : ℕ) → k < count → suc (count - (k + 1)) ≡ count - k
+pub less : (count k : ℕ) → k < count → suc (count - (k + 1)) ≡ count - k
 less count k h = omega arith
 
-none : (count k : ℕ) → count ≤ k → count - k ≡ 0
+pub none : (count k : ℕ) → count ≤ k → count - k ≡ 0
 none count k h = omega arith
 
-all : (count : ℕ) → count - 0 ≡ count
+pub all : (count : ℕ) → count - 0 ≡ count
 all count = omega arith
 
 -- a stroke's accesses, and the source's with them
@@ -41,7 +41,7 @@ both-small b mode mask s d code k u e i = omega (arith, stroke-small mode mask s
 
 -- one byte keeps memory's length and has at most 3 accesses
 module _ (b : Block) (from to : ℕ) (d : Drawing) where
-  struck-length : length (struck b from to d .mem) ≡ length (d .mem)
+  pub struck-length : length (struck b from to d .mem) ≡ length (d .mem)
   unfolding struck
   struck-length = by-cond (λ (m : List ℕ). length m ≡ length (d .mem)) (strokeBy b (d .mem) from to (d .code) .written) _ (d .mem) (λ _. length-set (d .mem) _ _) (λ _. refl)
 

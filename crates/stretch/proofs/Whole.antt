@@ -4,11 +4,13 @@ use mathlib.Core.Bool.{true, false}
 use mathlib.Core.List.{List}
 use Prim.Native.Nat.{ℕ, zero, suc, _+_}
 use lib.ListN.{length}
+use Rattle.laws.proofs.Choice.{by-cond}
 use Rattle.vram.specs.Memory.{goodLength}
 use Rattle.block.specs.Block.{modeOf}
 use Rattle.block.specs.declared.Block.{Block}
 use Rattle.stretch.specs.declared.Stretch.{Stretch}
 use Rattle.stretch.specs.Stretch.{Drawing, drawing, strokes, drawn}
+use Rattle.stretch.specs.Flat.{firstOf}
 use Rattle.stretch.proofs.Single.{still}
 
 -- in mode 7 nothing changes
@@ -32,3 +34,8 @@ module _ (b : Block) (s : Stretch) (mem : List ℕ) (code : ℕ) where
 
   pub by-none : goodLength (length mem) ≡ true → modeOf b ≡ 7 → drawing mem code 0 ≡ drawn b s mem code
   by-none h m = by-loop h (drawing mem code 0) (sym (idle b (s .along) (s .step) (s .count) (s .from) (s .to) mem code 0 m))
+
+-- none of its bytes
+pub by-nothing : (b : Block) (s : Stretch) (mem : List ℕ) (code : ℕ) → drawing mem code 0 ≡ drawn b (firstOf s 0) mem code
+unfolding drawn strokes
+by-nothing b s mem code = by-cond (λ (d : Drawing). drawing mem code 0 ≡ d) (goodLength (length mem)) (drawing mem code 0) (drawing mem code 0) (λ _. refl) (λ _. refl)

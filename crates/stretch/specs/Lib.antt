@@ -1,2 +1,3 @@
 -- A stretch of bytes.
 pub mod Stretch
+pub mod Flat

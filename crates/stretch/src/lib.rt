@@ -7,6 +7,9 @@ ghost use Rattle.vram.specs.Memory.{goodLength, place, cellAt};
 ghost use Rattle.block.specs.Block.{modeOf};
 ghost use Rattle.block.specs.Byte.{readsSource};
 ghost use Rattle.stretch.specs.Stretch.{drawing, strokes, drawn};
+
+pub mod flat;
+
 use block::Block;
 use block::Struck;
 use mode::Stroke;

@@ -1,8 +1,10 @@
 //! How long the archive takes for the same work as the twin.
 //!
-//! One process, the same input, the two in turn. Both are called through the words of `deskboard.h`.
+//! One process, the same input, the two in turn. Both are called through the words of `deskboard.h`. With arguments, only
+//! the rows whose name has one of them in it.
 
 use std::array;
+use std::env;
 use std::time::Instant;
 use twin::card::{Card, BOARD_WORDS, FRAME_WORDS, SETTINGS_WORDS};
 use twin::desk::Desk;
@@ -213,19 +215,41 @@ fn big(name: &'static str, control: u8, change: fn(&mut [u8; 21])) -> Workload {
     run(name, 1, 524_288, 0x60000, blocks.collect())
 }
 
-fn sprites() -> Workload {
+/// 24 pictures of 16 x 16, on a screen 320 wide. The first byte of each is `first` behind its place in memory, the next
+/// one a step in x further.
+fn sprites(name: &'static str, first: u32, step_x: i8, control: u8) -> Workload {
     let blocks = (0..24).map(|number| {
-        let source = (0x20000 + 256 * number, 1, 16);
+        let source = (0x20000 + 256 * number + first, step_x, 16);
         let place = 320 * (8 * (number % 6)) + 50 * (number / 6);
-        block(source, (0x30000 + place, 1, 320), 16, 16, 3)
+        block(source, (0x30000 + place, 1, 320), 16, 16, control)
+    });
+    run(name, 50, 524_288, 0x60000, blocks.collect())
+}
+
+/// 1,000 pictures of 4 x 8, as characters are.
+fn characters() -> Workload {
+    let blocks = (0..1_000).map(|number| {
+        let source = (0x10000 + 32 * (number % 96), 1, 4);
+        let place = 320 * (8 * (number / 80)) + 4 * (number % 80);
+        block(source, (0x20000 + place, 1, 320), 4, 8, 0)
     });
     run(
-        "24 sprites of 16 x 16, mode 3",
-        50,
+        "rows of 4: 4 x 8, 1,000 blocks",
+        10,
         524_288,
         0x60000,
         blocks.collect(),
     )
+}
+
+/// An SR screen, 320 x 240, of which each block does so many lines, from a source to the screen's first line.
+fn screen(name: &'static str, source: u32, lines: u32, andmask: u8) -> Workload {
+    let blocks = (0..12).map(|_| {
+        let mut block = block((source, 1, 320), (0x30000, 1, 320), 320, lines, 0);
+        block[15] = andmask;
+        block
+    });
+    run(name, 1, 524_288, 0x60000, blocks.collect())
 }
 
 fn narrow() -> Workload {
@@ -299,6 +323,11 @@ fn workloads() -> Vec<Workload> {
             block[15] = 0;
             block[16] = 0x5A;
         }),
+        big("mode 1, mask 0, 7 blocks", 1, |_| {}),
+        big("mode 5, AND 0, mask 0, 7 blocks", 5, |block| {
+            block[15] = 0;
+            block[16] = 255;
+        }),
         big("mode 1, collision mask 255, 7 blocks", 1, |block| {
             block[17] = 255;
         }),
@@ -319,8 +348,30 @@ fn workloads() -> Vec<Workload> {
             block[18] = 0x77;
             block[19] = 0x8F;
         }),
-        sprites(),
+        big("zoom 4 x 1, 7 blocks", 0, |block| {
+            block[12..14].copy_from_slice(&[127, 0]);
+            block[18] = 3;
+        }),
+        big("zoom 2 x 1, 7 blocks", 0, |block| {
+            block[12..14].copy_from_slice(&[255, 0]);
+            block[18] = 1;
+        }),
+        big("pattern of 4, 7 blocks", 0, |block| {
+            block[19] = 0x83;
+        }),
+        // The source is one byte behind the destination, or one before it: then each byte is read after it was written.
+        big("scroll by 1, 7 blocks", 0, |block| {
+            block[..3].copy_from_slice(&[1, 0, 3]);
+        }),
+        big("smear by 1, 7 blocks", 0, |block| {
+            block[..3].copy_from_slice(&[0xFF, 0xFF, 2]);
+        }),
+        sprites("24 sprites of 16 x 16, mode 3", 0, 1, 3),
+        sprites("24 of 16 x 16, mirrored, mode 0", 15, -1, 0),
+        characters(),
         narrow(),
+        screen("SR screen 320 x 240, cleared", 0x30000, 240, 0),
+        screen("SR screen, scrolled by a line", 0x30140, 239, 255),
         small_memory(),
         Workload {
             name: "frame, a record on each line",
@@ -356,7 +407,10 @@ fn main() {
         "{:<38}{:>15}{:>9}{:>9}{:>8}{:>10}{:>9}{:>8}",
         "work", "a pass", "desk", "twin", "ratio", "desk", "twin", "ratio"
     );
+    let named: Vec<String> = env::args().skip(1).collect();
     for workload in workloads() {
-        workload.measure();
+        if named.is_empty() || named.iter().any(|part| workload.name.contains(part)) {
+            workload.measure();
+        }
     }
 }
