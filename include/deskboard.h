@@ -12,7 +12,8 @@
  *
  * Buffers that are lent to one call must not overlap.
  *
- * Link with the archive that `rt staticlib capi` writes: target/staticlib/libcapi.a.
+ * Link with the archive that `rt staticlib capi` writes: target/staticlib/libcapi.a. It asks for one symbol, memset, which
+ * a C library has; a program without one must bring its own.
  */
 #ifndef DESKBOARD_H
 #define DESKBOARD_H

@@ -350,6 +350,39 @@ fn long_runs(r: &mut Random, pair: &mut Pair) {
     pair.call(Call::Run(r.below(1_000_001)));
 }
 
+/// Blocks whose bytes lie one after the other, and mostly their sources too. The two are near each other, so that they
+/// overlap, and often at the memory's end, so that they wrap. Some have one source byte for eight, some none, some a mask.
+fn flat(r: &mut Random, pair: &mut Pair) {
+    let length = make::length(r).min(1 << 16);
+    let mut mem = make::memory(r, length);
+    let list = make::address(r);
+    for number in 0..3 {
+        let mut block = make::block(r, &[list], number < 2);
+        let to = match r.below(3) {
+            0 => length as u32 - r.between(1, 40),
+            _ => r.below(length as u32),
+        };
+        let from = (524_288 + to + r.below(80) - 40) % 524_288;
+        block[..3].copy_from_slice(&from.to_le_bytes()[..3]);
+        block[5] = r.pick(&[1, 1, 1, 0, 255]);
+        block[6..9].copy_from_slice(&to.to_le_bytes()[..3]);
+        block[11] = 1;
+        block[12..15].copy_from_slice(&[r.between(6, 70) as u8, 0, r.below(4) as u8]);
+        block[15] = r.pick(&[0, 255, 255, 0x5A]);
+        block[17] = r.pick(&[0, 0, 0, 255]);
+        block[18] = r.pick(&[0, 0, 7, 0x17, 3]);
+        block[19] = r.pick(&[0, 0, 0x83, 0x8F]);
+        make::put(&mut mem, list + 21 * number, &block);
+    }
+    pair.lend(|lent| lent.mem = mem);
+    pair.call(Call::New);
+    write_address(pair, 0x50, list);
+    pair.call(Call::Write(0x53, 1));
+    for _ in 0..8 {
+        pair.call(Call::Run(budget(r, 2_000)));
+    }
+}
+
 /// Register writes and reads, resets, runs and lines in any order.
 fn scripts(r: &mut Random, pair: &mut Pair) {
     let length = make::length(r).min(1 << 16);
@@ -595,7 +628,7 @@ fn every_address(r: &mut Random, pair: &mut Pair) {
 
 type Family = (&'static str, u64, fn(&mut Random, &mut Pair));
 
-const FAMILIES: [Family; 8] = [
+const FAMILIES: [Family; 9] = [
     ("lists", 16_000, lists),
     ("long_runs", 24, long_runs),
     ("scripts", 5_000, scripts),
@@ -604,6 +637,7 @@ const FAMILIES: [Family; 8] = [
     ("plans", 14_000, plans),
     ("installs", 10_000, installs),
     ("every_address", 1, every_address),
+    ("flat", 8_000, flat),
 ];
 
 fn number(text: &str) -> u64 {

@@ -1,5 +1,6 @@
 // What one block does: the modes and their collisions, zoom, pattern and steps. Each line says what ran, what was reported and
 // how the board stands; then cells of memory.
+mod flat;
 
 // A byte s on a byte d at the beginning of a page, with a collision mask.
 fn hits(name: &[u8], mem: &mut [u8], page: u8, d: u8, s: u8, hitmask: u8, control: u8) {
@@ -190,4 +191,5 @@ pub fn all() {
     let mut mem = [0u8; 16384];
     struck(&mut mem);
     shaped(&mut mem);
+    flat::all(&mut mem);
 }
