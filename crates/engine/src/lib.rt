@@ -307,8 +307,8 @@ fn leave(mut blitter: Blitter, place: Place, code: u8, ticks: u32, accesses: u32
     }
 }
 
-// The same of a block whose stretches are flat, each up to a wrap. The loops over them stand apart from the others', or
-// the compiler runs out of registers in both.
+// The byte ticks of one block whose stretches are flat, each up to a wrap. Its loops stand apart from those of
+// `burst_each`, or the compiler runs out of registers in both.
 fn burst_flat(blitter: Blitter, mem: &mut [u8], ticks: u32, accesses: u32, budget: u32) -> Sofar
     requires { ⌜ BurstFrom blitter (now mem) ticks accesses budget × (levelBlock (blitter .block) ≡ true) ⌝ }
     ensures { λ r. ⌜ BurstTo blitter (now (mem .entry)) ticks accesses budget (r .blitter) (now (mem .exit)) (r .ticks) (r .accesses) ⌝ }
@@ -331,7 +331,8 @@ fn burst_flat(blitter: Blitter, mem: &mut [u8], ticks: u32, accesses: u32, budge
     leave(blitter, place, code, done, made)
 }
 
-// Whether a block's stretches are drawn at once: they are flat, and not too short for it to be worth while.
+// Whether a block's stretches are drawn at once: they are flat, and the longest has 8 bytes or more. Shorter ones are
+// drawn as quickly by the other loops.
 fn at_once(block: Block) -> bool
     ensures { λ r. ⌜ (r ≡ true → levelBlock block ≡ true) ⌝ }
 {
