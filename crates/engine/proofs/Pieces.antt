@@ -48,6 +48,16 @@ module _ {b : Blitter} {mem : List ℕ} {n : ℕ} (t : Taken b mem n) where
 as-further : (r : Running) → r ≡ further (r .ticks) (r .accesses) (begun (r .blitter) (r .mem))
 as-further r = sym (λ i. record { blitter = r .blitter; mem = r .mem; ticks = add-zero (r .ticks) i; accesses = add-zero (r .accesses) i })
 
+-- a budget in two pieces, taken or not: the counts of the first stand in front of those of the second
+pub run-pieces :
+    (m n : ℕ) (b : Blitter) (mem : List ℕ)
+    → runFor (m + n) (begun b mem)
+    ≡ further (runFor m (begun b mem) .ticks) (runFor m (begun b mem) .accesses) (runFor n (begun (runFor m (begun b mem) .blitter) (runFor m (begun b mem) .mem)))
+run-pieces m n b mem = run-add m n (begun b mem) ∙ ap (runFor n) (as-further first) ∙ run-further n (first .ticks) (first .accesses) (begun (first .blitter) (first .mem))
+  where
+    first : Running
+    first = runFor m (begun b mem)
+
 module _ {b : Blitter} {mem : List ℕ} (m n : ℕ) (t : Taken b mem (m + n)) where
   pub first-taken : Taken b mem m
   first-taken = record { good = t .good; sound = t .sound; small = omega (arith, t .small) }
@@ -76,9 +86,7 @@ module _ {b : Blitter} {mem : List ℕ} (m n : ℕ) (t : Taken b mem (m + n)) wh
   pub pieces-answer : runAnswer b mem (m + n) ≡ added (runAnswer b mem m) (runAnswer (runBlitter b mem m) (runMemory b mem m) n)
   pieces-answer =
       taken-answer t
-      ∙ ap counted (run-add m n (begun b mem) ∙ ap (runFor n) (as-further first) ∙ run-further n (first .ticks) (first .accesses) (begun (first .blitter) (first .mem)))
-      ∙ ap (λ (s : Machine). added (counted first) (counted (runFor n (begun (s .blitter) (s .mem))))) (run-after m (begun b mem) ∙ sym (taken-machine first-taken))
+      ∙ ap counted (run-pieces m n b mem)
+      ∙ ap (λ (s : Machine). added (counted (runFor m (begun b mem))) (counted (runFor n (begun (s .blitter) (s .mem)))))
+      (run-after m (begun b mem) ∙ sym (taken-machine first-taken))
       ∙ sym (λ i. added (taken-answer first-taken i) (taken-answer second-taken i))
-    where
-      first : Running
-      first = runFor m (begun b mem)
