@@ -5,7 +5,6 @@ use mathlib.Core.Bool.{Bool, true, false, _&&_}
 use mathlib.Core.List.{List, [], _∷_, _++_}
 use Prim.Native.Nat.{ℕ, zero, suc, _<_}
 use native.Mathlib.Omega.{arith}
-use lib.Count.{ones}
 use lib.Dec.{lit<, ltb}
 use lib.ListN.{length, replicate, length-replicate}
 use borrow.Author.Tests.{ltb-true}
@@ -13,6 +12,7 @@ use Rattle.laws.proofs.Choice.{both}
 use Rattle.refusal.specs.Sheet.{Told, done}
 use Rattle.vram.specs.Memory.{goodLength}
 use Rattle.vram.specs.Install.{installMemory}
+use Rattle.vram.proofs.Length.{shortest}
 use Rattle.settings.specs.Settings.{off}
 use Rattle.settings.specs.Below.{overlayBelow, mapBelow, settingsBelow}
 use Rattle.settings.specs.declared.Settings.{Settings}
@@ -45,10 +45,6 @@ zeros-below (suc n) (suc i) = zeros-below n i
 abbrev memory : List ℕ
 memory = replicate 16384 0
 
-smallest : goodLength 16384 ≡ true
-unfolding ones
-smallest = refl
-
 new-sound : soundBoard newBoard ≡ true
 unfolding soundBoard soundBlitter isNone noneSide noBlock noSide
 new-sound = refl
@@ -61,7 +57,7 @@ desk : Desk memory 524286 1 newBoard
 desk =
     record {
       bytes = zeros-below 16384;
-      board = ap goodLength (length-replicate {A = ℕ} 16384 0) ∙ smallest;
+      board = ap goodLength (length-replicate {A = ℕ} 16384 0) ∙ shortest;
       at-most = omega arith;
       sound = new-sound;
       on = refl;

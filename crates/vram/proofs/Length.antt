@@ -58,6 +58,11 @@ good L e =
     let q = both (eqb (ones L) 1) (leb 16384 L) (p .0) in
     record { one = eqb-true (ones L) 1 (q .0); least = leb-true 16384 L (q .1); most = leb-true L 524288 (p .1) }
 
+-- the shortest is taken
+pub shortest : goodLength 16384 ≡ true
+unfolding ones
+shortest = refl
+
 -- an access need not wrap at 524,288 first
 pub wrap : (L : ℕ) → goodLength L ≡ true → (x : ℕ) → place L x ≡ x % L
 wrap L e x = let g = good L e in mod-mod-of-dvd L x (divides L (g .one) (g .most))
