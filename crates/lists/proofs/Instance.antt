@@ -1,0 +1,178 @@
+-- Both theorems at one list, with every number written out. A fill of 3 by 2 bytes at 2000h, zoomed 2 by 3, with NEXT; then a fill of one byte at 3000h: 37 ticks and 2.
+-- Memory is 16,384 zeros but for the list, which begins at 524,270 and so wraps behind 18 bytes. Assumes nothing.
+use mathlib.Core.Path.{_≡_, refl, sym, ap, _∙_, subst}
+use mathlib.Core.Bool.{Bool, true, false}
+use mathlib.Core.List.{List, [], _∷_}
+use Prim.Native.Nat.{ℕ, zero, suc, _+_, _*_, _%_, _<_, _≤_}
+use native.Mathlib.Nat.{add-assoc, mod-eq-of-lt}
+use native.Mathlib.Omega.{arith}
+use lib.Count.{ones}
+use lib.Dec.{ltb, lit<, lit≤}
+use lib.ListN.{length, getD, set, replicate, length-replicate, getD-replicate}
+use lib.Seq.{getD-set-same}
+use Rattle.refusal.specs.Sheet.{done}
+use Rattle.vram.specs.Memory.{goodLength, place, byteAt, cellAt}
+use Rattle.vram.specs.Install.{installAnswer, installMemory}
+use Rattle.vram.proofs.ReadBack.{takes, installed-byte, installed-other, install-length}
+use Rattle.block.specs.Block.{sideAt, blockAt, noSide, noneSide, noBlock, isNone, columnsOf, rowsOf, nextOf, destAddress}
+use Rattle.block.specs.Fold.{each}
+use Rattle.block.specs.Byte.{readsSource, sourceByte, written, sizeOf, blockMem}
+use Rattle.block.proofs.Byte.{block-length}
+use Rattle.mode.specs.Mode.{writesIn, valueIn}
+use Rattle.block.specs.declared.Block.{Block}
+use Rattle.block.proofs.Bytes.{block-same}
+use Rattle.step.specs.Step.{signed, stepX, stepY, wrap19, sideAddress}
+use Rattle.blitter.specs.State.{newBlitter, soundBlitter}
+use Rattle.board.specs.Board.{soundBoard, writeBoard, runMemory}
+use Rattle.board.specs.declared.Board.{Board}
+use Rattle.lists.specs.Bench.{Bench, bench, runs, reported, sum, allowed}
+use Rattle.lists.specs.Touch.{Touched}
+use Rattle.lists.specs.Ends.{nthBlock, Chain, listTicks, listMemory, Ends}
+use Rattle.lists.proofs.Theorem.{run-touches, ends}
+
+abbrev bytes : List ℕ
+bytes =
+    0 ∷ 0 ∷ 0 ∷ 0 ∷ 0 ∷ 1 ∷ 0 ∷ 0x20 ∷ 0 ∷ 16 ∷ 0 ∷ 1 ∷ 2 ∷ 0 ∷ 1 ∷ 0 ∷ 1 ∷ 0 ∷ 0x21 ∷ 0 ∷ 8
+    ∷ 0 ∷ 0 ∷ 0 ∷ 0 ∷ 0 ∷ 1 ∷ 0 ∷ 0x30 ∷ 0 ∷ 0 ∷ 0 ∷ 1 ∷ 0 ∷ 0 ∷ 0 ∷ 0 ∷ 2 ∷ 0 ∷ 0 ∷ 0 ∷ 0 ∷ []
+
+abbrev zeros : List ℕ
+zeros = replicate 16384 0
+
+pub memory : List ℕ
+memory = installMemory zeros bytes 524270
+
+-- BL_ADR has the list's address; all else is new
+abbrev board : Board
+board = record { ports = record { video = 0; xdladr = 0; bladr = 524270; p0 = 0; p1 = 0; p2 = 0; p3 = 0 }; blitter = newBlitter }
+
+board-sound : soundBoard board ≡ true
+unfolding soundBoard soundBlitter isNone noneSide noBlock noSide
+board-sound = refl
+
+smallest : goodLength 16384 ≡ true
+unfolding ones
+smallest = refl
+
+zeros-good : goodLength (length zeros) ≡ true
+zeros-good = ap goodLength (length-replicate {A = ℕ} 16384 0) ∙ smallest
+
+installs : installAnswer zeros bytes 524270 ≡ done tt
+installs = takes zeros bytes 524270 (record { board = zeros-good; address = lit≤ tt; room = omega arith })
+
+memory-long : length memory ≡ 16384
+unfolding memory
+memory-long = install-length zeros bytes 524270 ∙ length-replicate {A = ℕ} 16384 0
+
+-- the list's bytes are those written out, so its blocks are
+laid : (j : ℕ) → j < 42 → byteAt memory 524270 j ≡ getD bytes j 0
+unfolding memory
+laid j l = installed-byte zeros bytes 524270 installs j l
+
+small-place : (n : ℕ) → n < 42 → place 42 n ≡ n
+small-place n l = ap (λ (z : ℕ). z % 42) (mod-eq-of-lt {n = n} {m = 524288} (omega arith)) ∙ mod-eq-of-lt l
+
+block-is : (k : ℕ) → k < 2 → nthBlock memory 524270 k ≡ nthBlock bytes 0 k
+block-is k l =
+    block-same memory bytes (524270 + 21 * k) (0 + 21 * k)
+    (λ j q.
+    ap (cellAt memory) (add-assoc 524270 (21 * k) j)
+    ∙ laid (21 * k + j) (omega arith)
+    ∙ sym (ap (λ (n : ℕ). getD bytes n 0) (ap (place 42) (let e : 0 + 21 * k + j ≡ 21 * k + j = omega arith in e) ∙ small-place (21 * k + j) (omega arith))))
+
+first-is : nthBlock memory 524270 0 ≡ nthBlock bytes 0 0
+first-is = block-is 0 (lit< tt)
+
+second-is : nthBlock memory 524270 1 ≡ nthBlock bytes 0 1
+second-is = block-is 1 (lit< tt)
+
+-- 6 rows of 6 and 1 of 1; their NEXT; their destinations
+sizes : (rowsOf (nthBlock bytes 0 0) ≡ 6) × (columnsOf (nthBlock bytes 0 0) ≡ 6) × (rowsOf (nthBlock bytes 0 1) ≡ 1) × (columnsOf (nthBlock bytes 0 1) ≡ 1)
+unfolding blockAt rowsOf columnsOf
+sizes = (refl, refl, refl, refl)
+
+nexts : (nextOf (nthBlock bytes 0 0) ≡ true) × (nextOf (nthBlock bytes 0 1) ≡ false)
+unfolding blockAt
+nexts = (refl, refl)
+
+first-dest : (row col : ℕ) → destAddress (nthBlock bytes 0 0) row col ≡ (8192 + row * 16 + col * 1) % 524288
+unfolding blockAt sideAt destAddress sideAddress stepY stepX signed wrap19
+first-dest row col = refl
+
+second-dest : (row col : ℕ) → destAddress (nthBlock bytes 0 1) row col ≡ (12288 + row * 0 + col * 1) % 524288
+unfolding blockAt sideAt destAddress sideAddress stepY stepX signed wrap19
+second-dest row col = refl
+
+-- so none of them falls on the 42 cells from 16,366 on, over the top to 23
+off : (row col j : ℕ) → row < 6 → col < 6 → j < 42 → place 16384 (524270 + j) ≡ place 16384 ((8192 + row * 16 + col * 1) % 524288) → ⊥
+off row col j r c l e = omega arith
+
+off-second : (row col j : ℕ) → row < 1 → col < 1 → j < 42 → place 16384 (524270 + j) ≡ place 16384 ((12288 + row * 0 + col * 1) % 524288) → ⊥
+off-second row col j r c l e = omega arith
+
+chain : Chain memory 524270 2
+chain = record { some = lit< tt; links = links; apart = apart }
+  where
+    links : (k : ℕ) → k < 2 → nextOf (nthBlock memory 524270 k) ≡ ltb (suc k) 2
+    links zero l = ap nextOf first-is ∙ nexts .0
+    links (suc zero) l = ap nextOf second-is ∙ nexts .1
+    links (suc (suc k)) l = absurd (omega arith)
+
+    apart :
+        (k row col j : ℕ) → k < 2 → row < rowsOf (nthBlock memory 524270 k) → col < columnsOf (nthBlock memory 524270 k) → j < 42
+        → place (length memory) (524270 + j) ≡ place (length memory) (destAddress (nthBlock memory 524270 k) row col)
+        → ⊥
+    apart zero row col j l r c q = rw (memory-long, first-is, first-dest row col) (off row col j (subst (λ (z : ℕ). row < z) (ap rowsOf first-is ∙ sizes .0) r) (subst (λ (z : ℕ). col < z) (ap columnsOf first-is ∙ sizes .1) c) q)
+    apart (suc zero) row col j l r c q = rw (memory-long, second-is, second-dest row col) (off-second row col j (subst (λ (z : ℕ). row < z) (ap rowsOf second-is ∙ sizes .2) r) (subst (λ (z : ℕ). col < z) (ap columnsOf second-is ∙ sizes .3) c) q)
+    apart (suc (suc k)) row col j l r c q = absurd (omega arith)
+
+-- 39 ticks in all, and memory has 2 at 3000h at the end
+ticks-are : listTicks memory 524270 2 ≡ 39
+unfolding listTicks
+ticks-are = rw (first-is, second-is, sizes .0, sizes .1, sizes .2, sizes .3)
+
+abbrev started : Bench
+started = bench (writeBoard board 0x53 1) memory
+
+pub example-ends : Ends started 39 (listMemory memory 524270 2)
+example-ends =
+    subst (λ (t : ℕ). Ends started t (listMemory memory 524270 2)) ticks-are
+    (ends board memory 2 1 board-sound (ap goodLength memory-long ∙ smallest) refl chain)
+
+-- in runs of 10, 20, 8, 1 and 5: not idle after three of them, idle after the fourth, and the fifth counts nothing
+pub example-busy : runs (10 ∷ 20 ∷ 8 ∷ []) started .board .blitter .flags ≡ 0 → ⊥
+unfolding allowed sum
+example-busy = example-ends .busy (10 ∷ 20 ∷ 8 ∷ []) refl (lit< tt)
+
+pub example-idle : runs (10 ∷ 20 ∷ 8 ∷ 1 ∷ []) started .board .blitter .flags ≡ 0
+unfolding allowed sum
+example-idle = example-ends .idle (10 ∷ 20 ∷ 8 ∷ 1 ∷ []) refl (lit≤ tt)
+
+pub example-counted : reported (10 ∷ 20 ∷ 8 ∷ 1 ∷ 5 ∷ []) started ≡ 39
+unfolding allowed sum
+example-counted = example-ends .counted (10 ∷ 20 ∷ 8 ∷ 1 ∷ 5 ∷ []) refl (lit≤ tt)
+
+-- the byte at 3000h is 0 before, and 2 behind the second block
+zero-before : getD memory 12288 0 ≡ 0
+unfolding memory
+zero-before = installed-other zeros bytes 524270 installs 12288 (λ i l. rw (length-replicate {A = ℕ} 16384 0) (none i l)) ∙ getD-replicate {A = ℕ} 16384 12288 0 0 (lit< tt)
+  where
+    none : (i : ℕ) → i < 42 → place 16384 (524270 + i) ≡ 12288 → ⊥
+    none i l e = omega arith
+
+two-behind : (x : List ℕ) → length x ≡ 16384 → getD (blockMem (nthBlock bytes 0 1) 1 x) 12288 0 ≡ 2
+unfolding blockMem each written writesIn valueIn sourceByte readsSource blockAt sideAt columnsOf destAddress sideAddress stepY stepX signed wrap19
+two-behind x long = rw long (getD-set-same x 12288 2 0 (omega (arith, long)))
+
+two-after : getD (listMemory memory 524270 2) 12288 0 ≡ 2
+unfolding listMemory each
+two-after =
+    ap (λ (b : Block). getD (blockMem b (sizeOf b) (listMemory memory 524270 1)) 12288 0) second-is
+    ∙ ap (λ (n : ℕ). getD (blockMem (nthBlock bytes 0 1) n (listMemory memory 524270 1)) 12288 0) (λ i. sizes .2 i * sizes .3 i)
+    ∙ two-behind (listMemory memory 524270 1) (block-length (nthBlock memory 524270 0) memory _ ∙ memory-long)
+
+-- so a run of 39 ticks touches it
+pub example-touched : Touched started 39 12288
+unfolding allowed sum runs
+example-touched =
+    run-touches (writeBoard board 0x53 1) memory 39 12288
+    (λ e. omega (arith, e, zero-before, two-after, ap (λ (m : List ℕ). getD m 12288 0) (example-ends .memory (39 ∷ []) refl (lit≤ tt))))
