@@ -1,4 +1,6 @@
 // The blitter at its edges: each line says what ran, what was reported and how the board stands; then cells of memory.
+mod list_ends;
+
 use block::Block;
 use board::Board;
 
@@ -195,6 +197,7 @@ fn main() {
     let mut mem = [0u8; 16384];
     runs(&mut mem);
     tops(&mut mem);
+    list_ends::all();
     start_cases::all();
     block_cases::all();
     let mut one = [0u8; 16384];

@@ -10,8 +10,8 @@ use lib.ListN.{length, getD}
 use borrow.Author.Tests.{lt-ltb, le-ltb}
 use Rattle.vram.specs.Memory.{place, byteAt, cellAt}
 use Rattle.block.specs.Fold.{each}
-use Rattle.block.specs.Block.{blockAt, columnsOf, rowsOf, nextOf}
-use Rattle.block.specs.Byte.{rowAt, colAt, sizeOf, destOf, blockMem, blockCode}
+use Rattle.block.specs.Block.{blockAt, columnsOf, rowsOf}
+use Rattle.block.specs.Byte.{rowAt, colAt, sizeOf, destOf, blockMem}
 use Rattle.block.specs.declared.Block.{Block}
 use Rattle.block.proofs.Byte.{place-length, block-length, block-other}
 use Rattle.block.proofs.Bytes.{block-same}
@@ -19,11 +19,15 @@ use Rattle.block.proofs.Fold.{each-keeps}
 use Rattle.block.proofs.Place.{row-in, col-in}
 use Rattle.block.proofs.Sizes.{columns-pos}
 use Rattle.engine.specs.Tick.{ended}
-use Rattle.engine.specs.Machine.{Machine, machine, after, holding}
+use Rattle.engine.specs.Machine.{Machine, after, holding}
 use Rattle.engine.proofs.Machine.{after-none, after-add}
 use Rattle.engine.proofs.Whole.{size-pos, block-busy, block-step}
 use Rattle.lists.specs.Ends.{nthBlock, Chain, listTicks, listMemory}
-use Rattle.lists.proofs.Runs.{stays, Exactly}
+use Rattle.lists.proofs.Runs.{flagsOf, stays, Exactly}
+
+-- the flags behind a block: 1 where another follows, else 0
+abbrev following : Bool → ℕ
+following next = cond next 1 0
 
 module _ (mem : List ℕ) (a m : ℕ) (c : Chain mem a m) where
   -- a memory in which the list stands as it stood
@@ -74,14 +78,14 @@ module _ (mem : List ℕ) (a m : ℕ) (c : Chain mem a m) where
 
   -- a blitter behind k blocks
   record Behind (k : ℕ) (s : Machine) : Type 0 where
-    flags : s .blitter .flags ≡ cond (ltb k m) 1 0
+    flags : s .blitter .flags ≡ following (ltb k m)
     list : s .blitter .list ≡ (a + 21 * k) % 524288
     made : s .mem ≡ listMemory mem a k
 
   -- the load and the bytes of block k
   module _ (k : ℕ) (l : k < m) (s : Machine) (p : Behind k s) where
     loads : s .blitter .flags ≡ 1
-    loads = p .flags ∙ ap (λ (t : Bool). cond t 1 0) (lt-ltb k m l)
+    loads = p .flags ∙ ap following (lt-ltb k m l)
 
     known : blockAt (s .mem) (s .blitter .list) ≡ nthBlock mem a k
     known = (λ i. blockAt (p .made i) (p .list i)) ∙ found k l
@@ -91,7 +95,7 @@ module _ (mem : List ℕ) (a m : ℕ) (c : Chain mem a m) where
     one-more =
         rw (block-step s (block k l) loads known)
         (record {
-          flags = ap (λ (t : Bool). cond t 1 0) (c .links k l);
+          flags = ap following (c .links k l);
           list = further (s .blitter .list) (p .list);
           made = ap (blockMem (block k l) (size k l)) (p .made);
         })
@@ -100,8 +104,8 @@ module _ (mem : List ℕ) (a m : ℕ) (c : Chain mem a m) where
         further list e = omega arith
 
     -- and before the last of them it is busy
-    busy-then : after (suc (size k l - 1)) s .blitter .flags ≡ 2
-    busy-then = ap (λ (x : Machine). x .blitter .flags) (block-busy s (block k l) loads known (size k l - 1) (omega (arith, size-pos (block k l))))
+    busy-then : flagsOf (after (suc (size k l - 1)) s) ≡ 2
+    busy-then = ap flagsOf (block-busy s (block k l) loads known (size k l - 1) (omega (arith, size-pos (block k l))))
 
   ticks-next : (k : ℕ) (l : k < m) → listTicks mem a k + suc (size k l) ≡ listTicks mem a (suc k)
   unfolding listTicks
@@ -118,7 +122,7 @@ module _ (s : Machine) (a m : ℕ) (load : s .blitter .flags ≡ 1) (at : s .bli
   start : Behind (s .mem) a m c 0 s
   start =
       record {
-        flags = load ∙ sym (ap (λ (t : Bool). cond t 1 0) (lt-ltb 0 m (c .some)));
+        flags = load ∙ sym (ap following (lt-ltb 0 m (c .some)));
         list = at ∙ ap (λ (z : ℕ). z % 524288) (let e : a ≡ a + 21 * 0 = omega arith in e);
         made = unfold listMemory each in refl;
       }
@@ -131,20 +135,20 @@ module _ (s : Machine) (a m : ℕ) (load : s .blitter .flags ≡ 1) (at : s .bli
     last : ℕ
     last = listTicks (s .mem) a k + suc (sizeOf (nthBlock (s .mem) a k) - 1)
 
-    busy-last : after last s .blitter .flags ≡ 2
+    busy-last : flagsOf (after last s) ≡ 2
     unfolding last
     busy-last =
-        ap (λ (x : Machine). x .blitter .flags) (after-add (listTicks (s .mem) a k) _ s)
+        ap flagsOf (after-add (listTicks (s .mem) a k) _ s)
         ∙ busy-then (s .mem) a m c k (omega arith) (after (listTicks (s .mem) a k) s) (behind (s .mem) a m c k s (omega arith) start)
 
-    not-before : (t : ℕ) → t < listTicks (s .mem) a (suc k) → after t s .blitter .flags ≡ 0 → ⊥
+    not-before : (t : ℕ) → t < listTicks (s .mem) a (suc k) → flagsOf (after t s) ≡ 0 → ⊥
     unfolding listTicks last
     not-before t l idle =
         omega (
           arith,
           busy-last,
           idle,
-          ap (λ (x : Machine). x .blitter .flags) (stays t last s (omega (arith, size-pos (nthBlock (s .mem) a k))) idle),
+          ap flagsOf (stays t last s (omega (arith, size-pos (nthBlock (s .mem) a k))) idle),
         )
 
   pub list-ends : Exactly s (listTicks (s .mem) a m) (listMemory (s .mem) a m)
@@ -152,6 +156,6 @@ module _ (s : Machine) (a m : ℕ) (load : s .blitter .flags ≡ 1) (at : s .bli
       let e : suc (m - 1) ≡ m = omega (arith, c .some) in
       record {
         busy = λ t l. not-before (m - 1) e t (rw e l);
-        idle = end .flags ∙ ap (λ (t : Bool). cond t 1 0) (le-ltb m m (omega arith));
+        idle = end .flags ∙ ap following (le-ltb m m (omega arith));
         memory = end .made;
       }

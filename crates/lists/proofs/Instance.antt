@@ -1,18 +1,18 @@
 -- Both theorems at one list, with every number written out. A fill of 3 by 2 bytes at 2000h, zoomed 2 by 3, with NEXT; then a fill of one byte at 3000h: 37 ticks and 2.
 -- Memory is 16,384 zeros but for the list, which begins at 524,270 and so wraps behind 18 bytes. Assumes nothing.
 use mathlib.Core.Path.{_≡_, refl, sym, ap, _∙_, subst}
-use mathlib.Core.Bool.{Bool, true, false}
+use mathlib.Core.Bool.{true, false}
 use mathlib.Core.List.{List, [], _∷_}
 use Prim.Native.Nat.{ℕ, zero, suc, _+_, _*_, _%_, _<_, _≤_}
 use native.Mathlib.Nat.{add-assoc, mod-eq-of-lt}
 use native.Mathlib.Omega.{arith}
-use lib.Count.{ones}
 use lib.Dec.{ltb, lit<, lit≤}
-use lib.ListN.{length, getD, set, replicate, length-replicate, getD-replicate}
+use lib.ListN.{length, getD, replicate, length-replicate, getD-replicate}
 use lib.Seq.{getD-set-same}
 use Rattle.refusal.specs.Sheet.{done}
 use Rattle.vram.specs.Memory.{goodLength, place, byteAt, cellAt}
 use Rattle.vram.specs.Install.{installAnswer, installMemory}
+use Rattle.vram.proofs.Length.{shortest}
 use Rattle.vram.proofs.ReadBack.{takes, installed-byte, installed-other, install-length}
 use Rattle.block.specs.Block.{sideAt, blockAt, noSide, noneSide, noBlock, isNone, columnsOf, rowsOf, nextOf, destAddress}
 use Rattle.block.specs.Fold.{each}
@@ -23,7 +23,7 @@ use Rattle.block.specs.declared.Block.{Block}
 use Rattle.block.proofs.Bytes.{block-same}
 use Rattle.step.specs.Step.{signed, stepX, stepY, wrap19, sideAddress}
 use Rattle.blitter.specs.State.{newBlitter, soundBlitter}
-use Rattle.board.specs.Board.{soundBoard, writeBoard, runMemory}
+use Rattle.board.specs.Board.{soundBoard, writeBoard}
 use Rattle.board.specs.declared.Board.{Board}
 use Rattle.lists.specs.Bench.{Bench, bench, runs, reported, sum, allowed}
 use Rattle.lists.specs.Touch.{Touched}
@@ -49,12 +49,8 @@ board-sound : soundBoard board ≡ true
 unfolding soundBoard soundBlitter isNone noneSide noBlock noSide
 board-sound = refl
 
-smallest : goodLength 16384 ≡ true
-unfolding ones
-smallest = refl
-
 zeros-good : goodLength (length zeros) ≡ true
-zeros-good = ap goodLength (length-replicate {A = ℕ} 16384 0) ∙ smallest
+zeros-good = ap goodLength (length-replicate {A = ℕ} 16384 0) ∙ shortest
 
 installs : installAnswer zeros bytes 524270 ≡ done tt
 installs = takes zeros bytes 524270 (record { board = zeros-good; address = lit≤ tt; room = omega arith })
@@ -136,7 +132,7 @@ started = bench (writeBoard board 0x53 1) memory
 pub example-ends : Ends started 39 (listMemory memory 524270 2)
 example-ends =
     subst (λ (t : ℕ). Ends started t (listMemory memory 524270 2)) ticks-are
-    (ends board memory 2 1 board-sound (ap goodLength memory-long ∙ smallest) refl chain)
+    (ends board memory 2 1 board-sound (ap goodLength memory-long ∙ shortest) refl chain)
 
 -- in runs of 10, 20, 8, 1 and 5: not idle after three of them, idle after the fourth, and the fifth counts nothing
 pub example-busy : runs (10 ∷ 20 ∷ 8 ∷ []) started .board .blitter .flags ≡ 0 → ⊥

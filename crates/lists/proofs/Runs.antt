@@ -1,6 +1,6 @@
 -- Runs one after the other, by the board's own calls, are as many ticks as their budgets have together. Assumes nothing.
 use mathlib.Core.Path.{_≡_, refl, sym, _∙_, ap}
-use mathlib.Core.Bool.{true, _&&_}
+use mathlib.Core.Bool.{true}
 use mathlib.Core.List.{List, [], _∷_}
 use Prim.Native.Nat.{ℕ, suc, _+_, _-_, _<_, _≤_}
 use native.Mathlib.Nat.{zero-add}
@@ -20,12 +20,15 @@ use Rattle.engine.proofs.Pieces.{Taken, taken-answer, taken-machine, run-pieces
 use Rattle.board.specs.Board.{runAnswer}
 use Rattle.board.proofs.Sound.{Sound, run-board-sound, run-board-length}
 use Rattle.board.proofs.Pieces.{Same, run-is}
-use Rattle.lists.specs.Bench.{Bench, bench, ran, ticksIn, runs, reported, sum, allowed}
+use Rattle.lists.specs.Bench.{Bench, ran, ticksIn, runs, reported, sum, allowed}
 use Rattle.lists.specs.Ends.{Ends}
 
 -- the blitter and the memory of a bench
 abbrev pub machineOf : Bench → Machine
 machineOf s = machine (s .board .blitter) (s .mem)
+
+abbrev pub flagsOf : Machine → ℕ
+flagsOf m = m .blitter .flags
 
 -- a bench on which a run with an allowed budget is not refused
 pub record Ready (s : Bench) : Type 0 where
@@ -92,15 +95,15 @@ runs-ticks (n ∷ ns) s r e =
     first = runFor n (begun (s .board .blitter) (s .mem))
 
 -- idle stays idle
-pub stays : (m n : ℕ) (s : Machine) → m ≤ n → after m s .blitter .flags ≡ 0 → after n s ≡ after m s
+pub stays : (m n : ℕ) (s : Machine) → m ≤ n → flagsOf (after m s) ≡ 0 → after n s ≡ after m s
 stays m n s l e =
     let q : n ≡ m + (n - m) = omega arith in
     ap (λ (k : ℕ). after k s) q ∙ after-add m (n - m) s ∙ after-idle (n - m) (after m s) e
 
 -- a blitter that is not idle before so many ticks and is idle after them, with this memory
 pub record Exactly (s : Machine) (ticks : ℕ) (last : List ℕ) : Type 0 where
-  pub busy : (t : ℕ) → t < ticks → after t s .blitter .flags ≡ 0 → ⊥
-  pub idle : after ticks s .blitter .flags ≡ 0
+  pub busy : (t : ℕ) → t < ticks → flagsOf (after t s) ≡ 0 → ⊥
+  pub idle : flagsOf (after ticks s) ≡ 0
   pub memory : after ticks s .mem ≡ last
 
 module _ {b : Blitter} {mem last : List ℕ} {ticks : ℕ} (x : Exactly (machine b mem) ticks last) where
@@ -116,15 +119,15 @@ module _ {b : Blitter} {mem last : List ℕ} {ticks : ℕ} (x : Exactly (machine
       ∙ count-before ticks (omega arith)
     where
       there : runFor ticks (begun b mem) .blitter .flags ≡ 0
-      there = ap (λ (m : Machine). m .blitter .flags) (run-after ticks (begun b mem)) ∙ x .idle
+      there = ap flagsOf (run-after ticks (begun b mem)) ∙ x .idle
 
 -- by the board's runs
 pub runs-end : {s : Bench} {ticks : ℕ} {last : List ℕ} → Ready s → Exactly (machineOf s) ticks last → Ends s ticks last
 runs-end {s = s} {ticks = ticks} {last = last} r x =
     record {
-      busy = λ ns e l f. x .busy (sum ns) l (sym (ap (λ (m : Machine). m .blitter .flags) (runs-machine ns s r e)) ∙ f);
+      busy = λ ns e l f. x .busy (sum ns) l (sym (ap flagsOf (runs-machine ns s r e)) ∙ f);
       used = λ ns e l. runs-ticks ns s r e ∙ count-before x (sum ns) (omega arith);
-      idle = λ ns e l. ap (λ (m : Machine). m .blitter .flags) (there ns e l) ∙ x .idle;
+      idle = λ ns e l. ap flagsOf (there ns e l) ∙ x .idle;
       counted = λ ns e l. runs-ticks ns s r e ∙ count-behind x (sum ns) l;
       memory = λ ns e l. ap (λ (m : Machine). m .mem) (there ns e l) ∙ x .memory;
     }

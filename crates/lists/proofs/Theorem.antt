@@ -1,5 +1,5 @@
 -- Both facts of A10, by the board's promises. Assumes nothing.
-use mathlib.Core.Path.{_≡_, refl, sym, _∙_, ap, subst}
+use mathlib.Core.Path.{_≡_, refl, sym, ap, subst}
 use mathlib.Core.Bool.{true}
 use mathlib.Core.List.{List}
 use Prim.Native.Nat.{ℕ, _%_, _≤_}
@@ -11,7 +11,6 @@ use Rattle.refusal.specs.Sheet.{Told, done, refused, unless, kept}
 use Rattle.refusal.proofs.Sheet.{passed}
 use Rattle.vram.specs.Memory.{goodLength}
 use Rattle.blitter.specs.State.{started}
-use Rattle.blitter.specs.declared.Blitter.{Blitter}
 use Rattle.blitter.proofs.Sound.{started-sound}
 use Rattle.engine.specs.Run.{Counts, runFor, begun, counted}
 use Rattle.board.specs.Board.{soundBoard, blitterWritten, writeBoard, runAnswer, runMemory}
@@ -19,9 +18,9 @@ use Rattle.board.specs.Ports.{portsWritten}
 use Rattle.board.specs.declared.Board.{Board}
 use Rattle.board.proofs.Answer.{write-done}
 use Rattle.board.proofs.Sound.{Sound, sound-facts}
-use Rattle.lists.specs.Bench.{Bench, bench}
+use Rattle.lists.specs.Bench.{bench}
 use Rattle.lists.specs.Touch.{Touched, Differs, Touches}
-use Rattle.lists.specs.Ends.{Chain, listTicks, listMemory, Ends, ListEnds}
+use Rattle.lists.specs.Ends.{listTicks, listMemory, Ends, ListEnds}
 use Rattle.lists.proofs.Runs.{machineOf, Ready, runs-end}
 use Rattle.lists.proofs.Touch.{touched}
 use Rattle.lists.proofs.Blocks.{list-ends}

@@ -2,7 +2,7 @@
 use mathlib.Core.Path.{_≡_, refl, sym, _∙_, ap, subst}
 use mathlib.Core.Bool.{Bool, true, false}
 use mathlib.Core.List.{List}
-use Prim.Native.Nat.{ℕ, zero, suc, _+_, _<_, _≤_}
+use Prim.Native.Nat.{ℕ, zero, suc, _+_, _≤_}
 use native.Mathlib.Omega.{arith}
 use lib.Dec.{eqb, ltb}
 use lib.ListN.{length, getD}
@@ -16,11 +16,11 @@ use Rattle.block.proofs.Byte.{place-length, written-other}
 use Rattle.blitter.specs.declared.Blitter.{Blitter}
 use Rattle.blitter.proofs.Sound.{Sound}
 use Rattle.engine.specs.Tick.{loadTick, ended, advanced, byteTick, tickBlitter, tickMemory}
-use Rattle.engine.specs.Machine.{Machine, machine}
+use Rattle.engine.specs.Machine.{Machine}
 use Rattle.board.proofs.Sound.{run-board-length}
 use Rattle.lists.specs.Bench.{Bench, ran}
 use Rattle.lists.specs.Touch.{blitterAt, Loaded, held, read, still, Touched, Differs}
-use Rattle.lists.proofs.Runs.{machineOf, Ready, ran-ready, ran-none, ran-next}
+use Rattle.lists.proofs.Runs.{Ready, ran-ready, ran-none, ran-next}
 
 -- One tick of a sound blitter.
 module _ (b : Blitter) (mem : List ℕ) (s : Sound b) where
@@ -83,7 +83,7 @@ module _ {s : Bench} (r : Ready s) where
         there = t .there;
       }
 
-  -- the first tick that changes a byte has it as its destination
+  -- the last tick before which a byte is as it was has it as its destination
   pub touched : (n i : ℕ) → n ≤ 1000000 → Differs (s .mem) (ran n s .mem) i → Touched s n i
   touched zero i l d = absurd (d (ap (λ (m : Machine). getD (m .mem) i 0) (ran-none r)))
   touched (suc n) i l d = by (eqb (getD (ran n s .mem) i 0) (getD (s .mem) i 0)) refl (touched n i (omega arith))
