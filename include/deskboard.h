@@ -61,7 +61,8 @@ uint32_t deskboard_reset(uint32_t *board, size_t board_len);
 /* One tick: refusals 1, 15, 13. report[0] is ticks done, report[1] accesses made. */
 uint32_t deskboard_tick(uint32_t *board, size_t board_len, uint8_t *mem, size_t mem_len, uint32_t *report, size_t report_len);
 
-/* A run: refusals 1, 15, 2, 13. Its report is that of a tick. */
+/* A run: refusals 1, 15, 2, 13. Its report is that of a tick. A block takes a tick for its load and one for each of its
+   destination bytes; a list that does not write on itself is idle after the sum of these, in as many runs as you like. */
 uint32_t deskboard_run(uint32_t *board, size_t board_len, uint8_t *mem, size_t mem_len, uint32_t budget, uint32_t *report, size_t report_len);
 
 /* Frame start: refusal 15. Makes a frame from a board. */

@@ -1262,6 +1262,54 @@ worked! {
         assert_eq!((rig.board[at::FLAGS], rig.mem[0]), (0, 0));
     }
 
+    // When a list ends (document 02, A10).
+
+    fn a_list_of_two_in_five_runs<C>() {
+        let first = Bcb {
+            dest: 0x2000,
+            dest_y: [16, 0],
+            width: 3,
+            height: 2,
+            and: 0,
+            xor: 1,
+            zoom: 0x21,
+            control: 8,
+            ..Bcb::default()
+        };
+        let second = Bcb { dest: 0x3000, and: 0, xor: 2, ..Bcb::default() };
+        let mut rig = Rig::<C>::with_blocks(&[first, second]);
+        // 37 ticks and 2.
+        for (budget, ticks, accesses, flags) in
+            [(10, 10, 30, 2), (20, 20, 20, 2), (8, 8, 28, 2), (1, 1, 1, 0), (5, 0, 0, 0)]
+        {
+            assert_eq!(rig.run(budget), (ticks, accesses));
+            assert_eq!(rig.board[at::FLAGS], flags);
+        }
+        assert_eq!(rig.cells(0x2050, 7), [1, 1, 1, 1, 1, 1, 0]);
+        assert_eq!(rig.mem[0x3000], 2);
+    }
+
+    fn a_list_that_meets_itself_modulo_l<C>() {
+        // The cell of 16,384 is the list's first byte.
+        let own = Bcb { dest: 16_384, and: 0, xor: 0x77, ..Bcb::default() };
+        let mut rig = Rig::<C>::with_blocks(&[own]);
+        assert_eq!(rig.run_all(), (2, 22));
+        assert_eq!(rig.mem[0], 0x77);
+
+        // That of 16,417 is the second block's width: 2 ticks and 5, and not 2 and 2.
+        let first = Bcb { dest: 16_417, and: 0, xor: 3, control: 8, ..Bcb::default() };
+        let second = Bcb { dest: 0x3000, and: 0, xor: 2, ..Bcb::default() };
+        let mut rig = Rig::<C>::with_blocks(&[first, second]);
+        assert_eq!(rig.run_all(), (7, 47));
+        assert_eq!(rig.cells(0x3000, 5), [2, 2, 2, 2, 0]);
+    }
+
+    fn a_list_over_the_top_ends_like_any<C>() {
+        let mut rig = Rig::<C>::with_list(524_280, &[four(true)]);
+        assert_eq!(rig.run_all(), (5, 25));
+        assert_eq!((rig.board[at::FLAGS], rig.board[at::LIST]), (0, 13));
+    }
+
     // The frame.
 
     fn text_with_off_is_off_and_resets_nothing<C>() {
