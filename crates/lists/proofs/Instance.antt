@@ -81,7 +81,7 @@ first-is = block-is 0 (lit< tt)
 second-is : nthBlock memory 524270 1 ≡ nthBlock bytes 0 1
 second-is = block-is 1 (lit< tt)
 
--- 6 rows of 6 and 1 of 1; their NEXT; their destinations
+-- 6 rows of 6 and 1 of 1; their NEXT
 sizes : (rowsOf (nthBlock bytes 0 0) ≡ 6) × (columnsOf (nthBlock bytes 0 0) ≡ 6) × (rowsOf (nthBlock bytes 0 1) ≡ 1) × (columnsOf (nthBlock bytes 0 1) ≡ 1)
 unfolding blockAt rowsOf columnsOf
 sizes = (refl, refl, refl, refl)
@@ -90,38 +90,35 @@ nexts : (nextOf (nthBlock bytes 0 0) ≡ true) × (nextOf (nthBlock bytes 0 1) �
 unfolding blockAt
 nexts = (refl, refl)
 
-first-dest : (row col : ℕ) → destAddress (nthBlock bytes 0 0) row col ≡ (8192 + row * 16 + col * 1) % 524288
-unfolding blockAt sideAt destAddress sideAddress stepY stepX signed wrap19
-first-dest row col = refl
+-- their destinations, which are none of the 42 cells from 16,366 on, over the top to 23
+abbrev Between : Block → Type 0
+Between b = (row col : ℕ) → row < rowsOf b → col < columnsOf b → (24 ≤ destAddress b row col) × (destAddress b row col < 16366)
 
-second-dest : (row col : ℕ) → destAddress (nthBlock bytes 0 1) row col ≡ (12288 + row * 0 + col * 1) % 524288
-unfolding blockAt sideAt destAddress sideAddress stepY stepX signed wrap19
-second-dest row col = refl
+first-between : Between (nthBlock bytes 0 0)
+unfolding blockAt sideAt rowsOf columnsOf destAddress sideAddress stepY stepX signed wrap19
+first-between row col r c = (omega arith, omega arith)
 
--- so none of them falls on the 42 cells from 16,366 on, over the top to 23
-off : (row col j : ℕ) → row < 6 → col < 6 → j < 42 → place 16384 (524270 + j) ≡ place 16384 ((8192 + row * 16 + col * 1) % 524288) → ⊥
-off row col j r c l e = omega arith
+second-between : Between (nthBlock bytes 0 1)
+unfolding blockAt sideAt rowsOf columnsOf destAddress sideAddress stepY stepX signed wrap19
+second-between row col r c = (omega arith, omega arith)
 
-off-second : (row col j : ℕ) → row < 1 → col < 1 → j < 42 → place 16384 (524270 + j) ≡ place 16384 ((12288 + row * 0 + col * 1) % 524288) → ⊥
-off-second row col j r c l e = omega arith
+off : (d j : ℕ) → (24 ≤ d) × (d < 16366) → j < 42 → place 16384 (524270 + j) ≡ place 16384 d → ⊥
+off d j between l e = omega (arith, between .0, between .1)
 
 chain : Chain memory 524270 2
-chain = record { some = lit< tt; links = links; apart = apart }
+chain = record { some = lit< tt; links = links; apart = λ k row col j l r c q. rw memory-long (off _ j (between k l row col r c) q) }
   where
     links : (k : ℕ) → k < 2 → nextOf (nthBlock memory 524270 k) ≡ ltb (suc k) 2
     links zero l = ap nextOf first-is ∙ nexts .0
     links (suc zero) l = ap nextOf second-is ∙ nexts .1
     links (suc (suc k)) l = absurd (omega arith)
 
-    apart :
-        (k row col j : ℕ) → k < 2 → row < rowsOf (nthBlock memory 524270 k) → col < columnsOf (nthBlock memory 524270 k) → j < 42
-        → place (length memory) (524270 + j) ≡ place (length memory) (destAddress (nthBlock memory 524270 k) row col)
-        → ⊥
-    apart zero row col j l r c q = rw (memory-long, first-is, first-dest row col) (off row col j (subst (λ (z : ℕ). row < z) (ap rowsOf first-is ∙ sizes .0) r) (subst (λ (z : ℕ). col < z) (ap columnsOf first-is ∙ sizes .1) c) q)
-    apart (suc zero) row col j l r c q = rw (memory-long, second-is, second-dest row col) (off-second row col j (subst (λ (z : ℕ). row < z) (ap rowsOf second-is ∙ sizes .2) r) (subst (λ (z : ℕ). col < z) (ap columnsOf second-is ∙ sizes .3) c) q)
-    apart (suc (suc k)) row col j l r c q = absurd (omega arith)
+    between : (k : ℕ) → k < 2 → Between (nthBlock memory 524270 k)
+    between zero l = subst Between (sym first-is) first-between
+    between (suc zero) l = subst Between (sym second-is) second-between
+    between (suc (suc k)) l = absurd (omega arith)
 
--- 39 ticks in all, and memory has 2 at 3000h at the end
+-- 39 ticks in all
 ticks-are : listTicks memory 524270 2 ≡ 39
 unfolding listTicks
 ticks-are = rw (first-is, second-is, sizes .0, sizes .1, sizes .2, sizes .3)
