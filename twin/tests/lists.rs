@@ -87,10 +87,8 @@ fn touches<C: Card>() {
             }
         }
     }
-    assert!(
-        differing > 10_000 && loads > 3_000,
-        "{differing} bytes, {loads} loads"
-    );
+    println!("{}: {differing} bytes differ, {loads} loads.", C::NAME);
+    assert!(differing > 10_000 && loads > 3_000);
 }
 
 /// The blocks of a list: up to the first with NEXT clear, eight at most.
@@ -170,10 +168,11 @@ fn ends<C: Card>() {
             astray += u32::from(!ended);
         }
     }
-    assert!(
-        spared > 1_000 && long > 300 && astray > 20,
-        "{spared}, {long} of them long, {astray} astray"
+    println!(
+        "{}: {spared} lists end at the sum, {long} of three blocks or more; {astray} that write on themselves do not.",
+        C::NAME
     );
+    assert!(spared > 1_000 && long > 300 && astray > 20);
 }
 
 macro_rules! facts {
