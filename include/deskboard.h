@@ -62,7 +62,8 @@ uint32_t deskboard_reset(uint32_t *board, size_t board_len);
 uint32_t deskboard_tick(uint32_t *board, size_t board_len, uint8_t *mem, size_t mem_len, uint32_t *report, size_t report_len);
 
 /* A run: refusals 1, 15, 2, 13. Its report is that of a tick. A block takes a tick for its load and one for each of its
-   destination bytes; a list that does not write on itself is idle after the sum of these, in as many runs as you like. */
+   destination bytes. A list is idle after exactly the sum of these, in as many runs as you like, if only its last block has
+   NEXT clear, no destination falls on the list modulo L, and nothing else is written between the runs. */
 uint32_t deskboard_run(uint32_t *board, size_t board_len, uint8_t *mem, size_t mem_len, uint32_t budget, uint32_t *report, size_t report_len);
 
 /* Frame start: refusal 15. Makes a frame from a board. */
