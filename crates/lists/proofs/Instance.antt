@@ -7,13 +7,13 @@ use Prim.Native.Nat.{ℕ, zero, suc, _+_, _*_, _%_, _<_, _≤_}
 use native.Mathlib.Nat.{add-assoc, mod-eq-of-lt}
 use native.Mathlib.Omega.{arith}
 use lib.Dec.{ltb, lit<, lit≤}
-use lib.ListN.{length, getD, replicate, length-replicate, getD-replicate}
+use lib.ListN.{length, getD}
 use lib.Seq.{getD-set-same}
-use Rattle.refusal.specs.Sheet.{done}
+use borrow.Author.Tests.{lt-ltb}
 use Rattle.vram.specs.Memory.{goodLength, place, byteAt, cellAt}
-use Rattle.vram.specs.Install.{installAnswer, installMemory}
+use Rattle.vram.specs.Install.{installMemory}
 use Rattle.vram.proofs.Length.{shortest}
-use Rattle.vram.proofs.ReadBack.{takes, installed-byte, installed-other, install-length}
+use Rattle.vram.proofs.Blank.{blank, on-blank-long, on-blank-byte, on-blank-other}
 use Rattle.block.specs.Block.{sideAt, blockAt, noSide, noneSide, noBlock, isNone, columnsOf, rowsOf, nextOf, destAddress}
 use Rattle.block.specs.Fold.{each}
 use Rattle.block.specs.Byte.{readsSource, sourceByte, written, sizeOf, blockMem}
@@ -35,34 +35,25 @@ bytes =
     0 ∷ 0 ∷ 0 ∷ 0 ∷ 0 ∷ 1 ∷ 0 ∷ 0x20 ∷ 0 ∷ 16 ∷ 0 ∷ 1 ∷ 2 ∷ 0 ∷ 1 ∷ 0 ∷ 1 ∷ 0 ∷ 0x21 ∷ 0 ∷ 8
     ∷ 0 ∷ 0 ∷ 0 ∷ 0 ∷ 0 ∷ 1 ∷ 0 ∷ 0x30 ∷ 0 ∷ 0 ∷ 0 ∷ 1 ∷ 0 ∷ 0 ∷ 0 ∷ 0 ∷ 2 ∷ 0 ∷ 0 ∷ 0 ∷ 0 ∷ []
 
-abbrev zeros : List ℕ
-zeros = replicate 16384 0
-
 pub memory : List ℕ
-memory = installMemory zeros bytes 524270
+memory = installMemory blank bytes 524270
 
--- BL_ADR has the list's address; all else is new
-abbrev board : Board
-board = record { ports = record { video = 0; xdladr = 0; bladr = 524270; p0 = 0; p1 = 0; p2 = 0; p3 = 0 }; blitter = newBlitter }
+-- BL_ADR has a list's address; all else is new
+abbrev pub boardAt : ℕ → Board
+boardAt a = record { ports = record { video = 0; xdladr = 0; bladr = a; p0 = 0; p1 = 0; p2 = 0; p3 = 0 }; blitter = newBlitter }
 
-board-sound : soundBoard board ≡ true
+pub boardAt-sound : (a : ℕ) → a < 524288 → soundBoard (boardAt a) ≡ true
 unfolding soundBoard soundBlitter isNone noneSide noBlock noSide
-board-sound = refl
-
-zeros-good : goodLength (length zeros) ≡ true
-zeros-good = ap goodLength (length-replicate {A = ℕ} 16384 0) ∙ shortest
-
-installs : installAnswer zeros bytes 524270 ≡ done tt
-installs = takes zeros bytes 524270 (record { board = zeros-good; address = lit≤ tt; room = omega arith })
+boardAt-sound a l = rw (lt-ltb a 524288 l)
 
 memory-long : length memory ≡ 16384
 unfolding memory
-memory-long = install-length zeros bytes 524270 ∙ length-replicate {A = ℕ} 16384 0
+memory-long = on-blank-long bytes 524270
 
 -- the list's bytes are those written out, so its blocks are
 laid : (j : ℕ) → j < 42 → byteAt memory 524270 j ≡ getD bytes j 0
 unfolding memory
-laid j l = installed-byte zeros bytes 524270 installs j l
+laid = on-blank-byte bytes 524270 (lit≤ tt) (lit≤ tt)
 
 small-place : (n : ℕ) → n < 42 → place 42 n ≡ n
 small-place n l = ap (λ (z : ℕ). z % 42) (mod-eq-of-lt {n = n} {m = 524288} (omega arith)) ∙ mod-eq-of-lt l
@@ -102,11 +93,11 @@ second-between : Between (nthBlock bytes 0 1)
 unfolding blockAt sideAt rowsOf columnsOf destAddress sideAddress stepY stepX signed wrap19
 second-between row col r c = (omega arith, omega arith)
 
-off : (d j : ℕ) → (24 ≤ d) × (d < 16366) → j < 42 → place 16384 (524270 + j) ≡ place 16384 d → ⊥
-off d j between l e = omega (arith, between .0, between .1)
+off-list : (d j : ℕ) → (24 ≤ d) × (d < 16366) → j < 42 → place 16384 (524270 + j) ≡ place 16384 d → ⊥
+off-list d j between l e = omega (arith, between .0, between .1)
 
 chain : Chain memory 524270 2
-chain = record { some = lit< tt; links = links; apart = λ k row col j l r c q. rw memory-long (off _ j (between k l row col r c) q) }
+chain = record { some = lit< tt; links = links; apart = λ k row col j l r c q. rw memory-long (off-list _ j (between k l row col r c) q) }
   where
     links : (k : ℕ) → k < 2 → nextOf (nthBlock memory 524270 k) ≡ ltb (suc k) 2
     links zero l = ap nextOf first-is ∙ nexts .0
@@ -124,12 +115,12 @@ unfolding listTicks
 ticks-are = rw (first-is, second-is, sizes .0, sizes .1, sizes .2, sizes .3)
 
 abbrev started : Bench
-started = bench (writeBoard board 0x53 1) memory
+started = bench (writeBoard (boardAt 524270) 0x53 1) memory
 
 pub example-ends : Ends started 39 (listMemory memory 524270 2)
 example-ends =
     subst (λ (t : ℕ). Ends started t (listMemory memory 524270 2)) ticks-are
-    (ends board memory 2 1 board-sound (ap goodLength memory-long ∙ shortest) refl chain)
+    (ends (boardAt 524270) memory 2 1 (boardAt-sound 524270 (lit< tt)) (ap goodLength memory-long ∙ shortest) refl chain)
 
 -- in runs of 10, 20, 8, 1 and 5: not idle after three of them, idle after the fourth, and the fifth counts nothing
 pub example-busy : runs (10 ∷ 20 ∷ 8 ∷ []) started .board .blitter .flags ≡ 0 → ⊥
@@ -147,7 +138,7 @@ example-counted = example-ends .counted (10 ∷ 20 ∷ 8 ∷ 1 ∷ 5 ∷ []) ref
 -- the byte at 3000h is 0 before, and 2 behind the second block
 zero-before : getD memory 12288 0 ≡ 0
 unfolding memory
-zero-before = installed-other zeros bytes 524270 installs 12288 (λ i l. rw (length-replicate {A = ℕ} 16384 0) (none i l)) ∙ getD-replicate {A = ℕ} 16384 12288 0 0 (lit< tt)
+zero-before = on-blank-other bytes 524270 (lit≤ tt) (lit≤ tt) 12288 (lit< tt) none
   where
     none : (i : ℕ) → i < 42 → place 16384 (524270 + i) ≡ 12288 → ⊥
     none i l e = omega arith
@@ -167,5 +158,5 @@ two-after =
 pub example-touched : Touched started 39 12288
 unfolding allowed sum runs
 example-touched =
-    run-touches (writeBoard board 0x53 1) memory 39 12288
+    run-touches (writeBoard (boardAt 524270) 0x53 1) memory 39 12288
     (λ e. omega (arith, e, zero-before, two-after, ap (λ (m : List ℕ). getD m 12288 0) (example-ends .memory (39 ∷ []) refl (lit≤ tt))))

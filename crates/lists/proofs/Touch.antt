@@ -25,8 +25,8 @@ use Rattle.lists.proofs.Runs.{Ready, ran-ready, ran-none, ran-next}
 -- One tick of a sound blitter.
 module _ (b : Blitter) (mem : List ℕ) (s : Sound b) where
   -- flags that are neither 0 nor 1
-  busy-then : eqb (b .flags) 0 ≡ false → eqb (b .flags) 1 ≡ false → b .flags ≡ 2
-  busy-then p q = omega (arith, eqb-false (b .flags) 0 p, eqb-false (b .flags) 1 q, s .flags-in)
+  else-busy : eqb (b .flags) 0 ≡ false → eqb (b .flags) 1 ≡ false → b .flags ≡ 2
+  else-busy p q = omega (arith, eqb-false (b .flags) 0 p, eqb-false (b .flags) 1 q, s .flags-in)
 
   -- what it holds while busy after the tick: what a load tick read, or what it held before a byte tick
   busy-after : (P : Block → Type 0) → (b .flags ≡ 1 → P (blockAt mem (b .list))) → (b .flags ≡ 2 → P (b .block)) → tickBlitter b mem .flags ≡ 2 → P (tickBlitter b mem .block)
@@ -34,8 +34,8 @@ module _ (b : Blitter) (mem : List ℕ) (s : Sound b) where
   busy-after P load byte =
       by-cond Q (eqb (b .flags) 0) _ _ (λ e f. absurd (omega (arith, eqb-true (b .flags) 0 e, f)))
       (λ p. by-cond Q (eqb (b .flags) 1) _ _ (λ e _. load (eqb-true (b .flags) 1 e))
-      (λ q. by-cond Q (ltb (b .col + 1) (columnsOf (b .block))) _ _ (λ _ _. byte (busy-then p q))
-      (λ _. by-cond Q (ltb (b .row + 1) (rowsOf (b .block))) _ _ (λ _ _. byte (busy-then p q))
+      (λ q. by-cond Q (ltb (b .col + 1) (columnsOf (b .block))) _ _ (λ _ _. byte (else-busy p q))
+      (λ _. by-cond Q (ltb (b .row + 1) (rowsOf (b .block))) _ _ (λ _ _. byte (else-busy p q))
       (λ _ f. absurd (by-cond (λ (n : ℕ). n ≡ 2 → ⊥) (nextOf (b .block)) 1 0 (λ _ g. omega (arith, g)) (λ _ g. omega (arith, g)) f)))))
     where
       Q : Blitter → Type 0
@@ -49,7 +49,7 @@ module _ (b : Blitter) (mem : List ℕ) (s : Sound b) where
   unfolding tickMemory
   changes i =
       by-cond P (eqb (b .flags) 0) _ _ (λ _ d. absurd (d refl))
-      (λ p. by-cond P (eqb (b .flags) 1) _ _ (λ _ d. absurd (d refl)) (λ q d. (busy-then p q, by (eqb i at) refl d)))
+      (λ p. by-cond P (eqb (b .flags) 1) _ _ (λ _ d. absurd (d refl)) (λ q d. (else-busy p q, by (eqb i at) refl d)))
     where
       P : List ℕ → Type 0
       P m = Differs mem m i → (b .flags ≡ 2) × (i ≡ at)

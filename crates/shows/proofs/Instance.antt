@@ -1,6 +1,6 @@
 -- The theorem at two plans, with every number written out: the plan of document 01's example, and a text band with a map and four lines that run on.
 -- Memory is 16,384 zeros, the board is new, and the list begins at 524,286, so that it wraps behind two bytes. Assumes nothing.
-use mathlib.Core.Path.{_≡_, refl, ap, _∙_}
+use mathlib.Core.Path.{_≡_, refl}
 use mathlib.Core.Bool.{Bool, true, false, _&&_}
 use mathlib.Core.List.{List, [], _∷_, _++_}
 use Prim.Native.Nat.{ℕ, zero, suc, _<_}
@@ -10,9 +10,8 @@ use lib.ListN.{length, replicate, length-replicate}
 use borrow.Author.Tests.{ltb-true}
 use Rattle.laws.proofs.Choice.{both}
 use Rattle.refusal.specs.Sheet.{Told, done}
-use Rattle.vram.specs.Memory.{goodLength}
 use Rattle.vram.specs.Install.{installMemory}
-use Rattle.vram.proofs.Length.{shortest}
+use Rattle.vram.proofs.Blank.{blank, blank-good}
 use Rattle.settings.specs.Settings.{off}
 use Rattle.settings.specs.Below.{overlayBelow, mapBelow, settingsBelow}
 use Rattle.settings.specs.declared.Settings.{Settings}
@@ -42,22 +41,19 @@ zeros-below zero i = omega arith
 zeros-below (suc n) zero = omega arith
 zeros-below (suc n) (suc i) = zeros-below n i
 
-abbrev memory : List ℕ
-memory = replicate 16384 0
-
 new-sound : soundBoard newBoard ≡ true
 unfolding soundBoard soundBlitter isNone noneSide noBlock noSide
 new-sound = refl
 
 -- line k of a plan whose list has n bytes
 abbrev line : List ℕ → ℕ → ℕ → Told Settings
-line plan n k = lineOf (started 524286 1 newBoard) (installMemory memory (listOf plan (replicate n 0) (itemsOf (parse plan))) 524286) k
+line plan n k = lineOf (started 524286 1 newBoard) (installMemory blank (listOf plan (replicate n 0) (itemsOf (parse plan))) 524286) k
 
-desk : Desk memory 524286 1 newBoard
+desk : Desk blank 524286 1 newBoard
 desk =
     record {
       bytes = zeros-below 16384;
-      board = ap goodLength (length-replicate {A = ℕ} 16384 0) ∙ shortest;
+      board = blank-good;
       at-most = omega arith;
       sound = new-sound;
       on = refl;
@@ -70,7 +66,7 @@ module _
   valid = record { bytes = bytes-below plan bytes; rules = taken; room = omega (arith, length-replicate {A = ℕ} n 0) }
 
   line-is : (k : ℕ) → k < 240 → line plan n k ≡ done (planMeans plan k)
-  line-is = demand-3 plan (replicate n 0) memory (itemsOf (parse plan)) 524286 1 newBoard valid desk .lines
+  line-is = demand-3 plan (replicate n 0) blank (itemsOf (parse plan)) 524286 1 newBoard valid desk .lines
 
 -- "17 00 01 00, 01, seventeen bytes 00, 08 01 01 01 FF"
 abbrev example : List ℕ

@@ -1,4 +1,5 @@
 -- Laws of video memory.
 pub mod Length
 pub mod ReadBack
+pub mod Blank
 mod Once
