@@ -4,32 +4,11 @@
 
 mod common;
 
+use common::cells::{block_at, cell, destination, destinations, own, BLOCK};
 use common::*;
 use std::collections::BTreeSet;
 use twin::card::Card;
 use twin::random::Random;
-
-const BLOCK: usize = 21;
-
-/// The cell of an address: 19 bits, then modulo the length of memory.
-fn cell(address: i64, length: usize) -> usize {
-    address.rem_euclid(524_288) as usize % length
-}
-
-/// The address of a block's destination byte at a row and a column.
-fn destination(block: &[u8; BLOCK], row: u32, column: u32) -> i64 {
-    let byte = |at: usize| i64::from(block[at]);
-    let start = byte(6) + (byte(7) << 8) + ((byte(8) & 7) << 16);
-    let bits = byte(9) + ((byte(10) & 31) << 8);
-    let step_y = if bits > 4_095 { bits - 8_192 } else { bits };
-    let step_x = i64::from(block[11] as i8);
-    start + i64::from(row) * step_y + i64::from(column) * step_x
-}
-
-/// The 21 bytes of memory from an address on.
-fn block_at(mem: &[u8], address: u32) -> [u8; BLOCK] {
-    std::array::from_fn(|number| mem[cell(i64::from(address) + number as i64, mem.len())])
-}
 
 /// The block that a busy board holds.
 fn held(board: &[u32]) -> [u8; BLOCK] {
@@ -106,15 +85,10 @@ fn blocks(mem: &[u8], list: u32) -> Option<Vec<[u8; BLOCK]>> {
 
 /// Whether no destination of a list falls on one of its own bytes, written or not.
 fn spares_itself(blocks: &[[u8; BLOCK]], list: u32, length: usize) -> bool {
-    let own: BTreeSet<usize> = (0..BLOCK * blocks.len())
-        .map(|number| cell(i64::from(list) + number as i64, length))
-        .collect();
-    blocks.iter().all(|block| {
-        let (rows, columns) = make::extents(block);
-        (0..rows).all(|row| {
-            (0..columns).all(|column| !own.contains(&cell(destination(block, row, column), length)))
-        })
-    })
+    let own = own(list, blocks.len(), length);
+    blocks
+        .iter()
+        .all(|block| destinations(block, length).is_disjoint(&own))
 }
 
 /// "goes idle after exactly the sum over its blocks of 1 + W·ZX·H·ZY ticks, across as many runs as wanted"; whether it did.

@@ -1310,6 +1310,85 @@ worked! {
         assert_eq!((rig.board[at::FLAGS], rig.board[at::LIST]), (0, 13));
     }
 
+    // A pointer taken away again (document 02, A13).
+
+    fn a_pointer_with_both_bytes_on_one_cell<C>() {
+        let block = Bcb {
+            source: 0x2000,
+            dest: 0x2100,
+            dest_x: 0,
+            width: 2,
+            collision: 0xFF,
+            control: 5,
+            ..Bcb::default()
+        };
+        let mut rig = Rig::<C>::with_blocks(&[block]);
+        rig.put(0x2000, &[3, 5]);
+        rig.mem[0x2100] = 9;
+        let before = rig.mem.clone();
+        assert_eq!(rig.run_all(), (3, 27));
+        // 9, then 10, collided; 10 with 5 is 15.
+        assert_eq!((rig.mem[0x2100], rig.board[at::CODE]), (15, 10));
+        rig.write(0x53, 1);
+        assert_eq!([rig.run(1), rig.run(1), rig.run(1)], [(1, 21), (1, 3), (1, 3)]);
+        assert_eq!((rig.board[at::FLAGS], rig.board[at::CODE]), (0, 12));
+        assert!(rig.mem == before);
+    }
+
+    fn a_pointer_on_its_own_source<C>() {
+        // Read, 3 makes 0 of itself, and 0 stays; with AND 0 it is no source, and 77 undoes itself.
+        for (and, once, twice) in [(0xFF, 0, 0), (0, 3 ^ 77, 3)] {
+            let block = Bcb {
+                source: 0x2100,
+                dest: 0x2100,
+                and,
+                xor: if and == 0 { 77 } else { 0 },
+                control: 5,
+                ..Bcb::default()
+            };
+            let mut rig = Rig::<C>::with_blocks(&[block]);
+            rig.mem[0x2100] = 3;
+            rig.run_all();
+            assert_eq!(rig.mem[0x2100], once);
+            rig.write(0x53, 1);
+            rig.run_all();
+            assert_eq!(rig.mem[0x2100], twice);
+        }
+    }
+
+    fn a_pointer_on_its_own_block<C>() {
+        // Address 16,400 is the cell of the XOR mask, which is 0 the second time.
+        let block = Bcb { dest: 16_400, and: 0, xor: 77, control: 5, ..Bcb::default() };
+        let mut rig = Rig::<C>::with_blocks(&[block]);
+        rig.run_all();
+        rig.write(0x53, 1);
+        rig.run_all();
+        assert_eq!(rig.mem[16], 0);
+    }
+
+    fn two_pointers_in_both_orders<C>() {
+        // The second one's destinations are two of the first one's and one more, or the first one's sources.
+        let meeting = [0x11, 0x62, 0x64, 0x60, 1, 2, 4];
+        let first_last = [0x61, 0x62, 0x64, 0x10, 0x71, 0x72, 0x74];
+        let second_last = [0x11, 0x12, 0x14, 0x10, 0x71, 0x72, 0x74];
+        for (dest, one, other) in
+            [(0x2101, meeting, meeting), (0x2104, second_last, first_last)]
+        {
+            let first = Bcb { source: 0x2104, dest: 0x2100, width: 3, control: 5, ..Bcb::default() };
+            let second = Bcb { dest, width: 3, and: 0, xor: 0x70, control: 5, ..Bcb::default() };
+            for (order, cells) in [([0, 256], one), ([256, 0], other)] {
+                let mut rig = Rig::<C>::with_blocks(&[first]);
+                rig.put(256, &second.bytes());
+                rig.put(0x2100, &[0x10, 0x10, 0x10, 0x10, 1, 2, 4]);
+                for list in order {
+                    rig.start_list(list);
+                    rig.run_all();
+                }
+                assert_eq!(rig.cells(0x2100, 7), cells);
+            }
+        }
+    }
+
     // The frame.
 
     fn text_with_off_is_off_and_resets_nothing<C>() {

@@ -2,7 +2,7 @@
 use mathlib.Core.Path.{_≡_, sym, _∙_, ap}
 use mathlib.Core.Logic.{⊎-elim}
 use Prim.Native.Nat.{ℕ, suc, _+_, _*_, _/_, _%_, _<_, _≤_}
-use native.Mathlib.Nat.{mod-lt, div-add-mod', mul-add-div-right, mul-add-mod-self-right, div-eq-of-lt, mod-eq-of-lt, div-lt-iff-lt-mul, add-zero, eq-or-lt-of-le}
+use native.Mathlib.Nat.{mod-lt, div-add-mod', mul-add-div-right, mul-add-mod-self-right, div-eq-of-lt, mod-eq-of-lt, div-lt-iff-lt-mul, mul-le-mul, suc-mul, add-zero, eq-or-lt-of-le}
 use native.Mathlib.Numerals.{add-one}
 use native.Mathlib.Omega.{arith}
 
@@ -35,6 +35,9 @@ module _ (c : ℕ) (some : 0 < c) where
 
   pub col-in : (n : ℕ) → n % c < c
   col-in n = mod-lt n some
+
+  pub inside : (r row col : ℕ) → row < r → col < c → row * c + col < r * c
+  inside r row col h k = omega (arith, mul-le-mul {n₁ = suc row} {m₁ = c} {n₂ = r} {m₂ = c} h (omega arith), suc-mul row c)
 
   -- at a row's end, where a place is left, the next row is inside
   pub more-rows : (r n : ℕ) → suc n < r * c → c ≤ n % c + 1 → n / c + 1 < r

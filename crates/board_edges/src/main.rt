@@ -1,5 +1,6 @@
 // The blitter at its edges: each line says what ran, what was reported and how the board stands; then cells of memory.
 mod list_ends;
+mod pointers;
 
 use block::Block;
 use board::Board;
@@ -198,6 +199,7 @@ fn main() {
     runs(&mut mem);
     tops(&mut mem);
     list_ends::all();
+    pointers::all();
     start_cases::all();
     block_cases::all();
     let mut one = [0u8; 16384];

@@ -3,3 +3,4 @@ pub mod Choice
 pub mod Lent
 pub mod Once
 pub mod Signed
+pub mod Xor

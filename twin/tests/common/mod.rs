@@ -1,6 +1,7 @@
 //! What the tests share: blocks, plan items and a board with its memory, written down briefly.
 #![allow(dead_code)]
 
+pub mod cells;
 pub mod make;
 
 use std::marker::PhantomData;

@@ -1,0 +1,2 @@
+-- A pointer drawn, and taken away by drawing it again.
+pub mod Pointer
