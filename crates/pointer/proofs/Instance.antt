@@ -3,7 +3,7 @@
 use mathlib.Core.Path.{_≡_, refl, sym, ap, _∙_, subst}
 use mathlib.Core.Bool.{true, false, true≢false}
 use mathlib.Core.List.{List, [], _∷_}
-use Prim.Native.Nat.{ℕ, zero, suc, _+_, _*_, _%_, _<_, _≤_}
+use Prim.Native.Nat.{ℕ, _+_, _%_, _<_}
 use native.Mathlib.Nat.{mod-eq-of-lt}
 use native.Mathlib.Omega.{arith}
 use lib.Bits.{bitXor}
@@ -17,7 +17,7 @@ use Rattle.vram.proofs.Length.{shortest}
 use Rattle.vram.proofs.Blank.{blank, on-blank-long, on-blank-byte}
 use Rattle.block.specs.Block.{sideAt, blockAt, columnsOf, rowsOf, patternOf, modeOf, nextOf, destAddress, sourceAddress}
 use Rattle.block.specs.Fold.{each}
-use Rattle.block.specs.Byte.{readsSource, sourceByte, sizeOf, destOf, sourceOf, blockMem}
+use Rattle.block.specs.Byte.{readsSource, sourceByte, sizeOf, destOf, sourceOf}
 use Rattle.block.specs.declared.Block.{Block}
 use Rattle.block.proofs.Bytes.{block-same}
 use Rattle.step.specs.Step.{signed, stepX, stepY, wrap19, sideAddress}
@@ -108,44 +108,33 @@ second-below : Below26 second
 unfolding readsSource blockAt
 second-below n l r = absurd (true≢false (sym r))
 
--- and no byte of a list is there
-spares : (a z : ℕ) → On26 (blockAt memory a) → Below26 (blockAt memory z) → ((j : ℕ) → j < 21 → place 16384 (z + j) ≡ 26 → ⊥) → Spares memory a z
-spares a z on below own =
+-- and no byte of either list is cell 26
+record Known (a : ℕ) : Type 0 where
+  on : On26 (blockAt memory a)
+  below : Below26 (blockAt memory a)
+  own : (j : ℕ) → j < 21 → place 16384 (a + j) ≡ 26 → ⊥
+
+first-known : Known 524270
+first-known = record { on = subst On26 (sym first-is) first-on; below = subst Below26 (sym first-is) first-below; own = λ j l e. omega arith }
+
+second-known : Known 3
+second-known = record { on = subst On26 (sym second-is) second-on; below = subst Below26 (sym second-is) second-below; own = λ j l e. omega arith }
+
+spares : {a z : ℕ} → Known a → Known z → Spares memory a z
+spares {z = z} k h =
     record {
-      sources = λ n m u v r e. omega (arith, on n, below m v r, e);
-      bytes = λ n j u v e. own j v (sym (ap (λ (long : ℕ). place long (z + j)) memory-long) ∙ sym e ∙ on n);
+      sources = λ n m u v r e. omega (arith, k .on n, h .below m v r, e);
+      bytes = λ n j u v e. h .own j v (sym (ap (λ (long : ℕ). place long (z + j)) memory-long) ∙ sym e ∙ k .on n);
     }
-
-own-first : (j : ℕ) → j < 21 → place 16384 (524270 + j) ≡ 26 → ⊥
-own-first j l e = omega arith
-
-own-second : (j : ℕ) → j < 21 → place 16384 (3 + j) ≡ 26 → ⊥
-own-second j l e = omega arith
 
 first-pointer : Pointer memory 524270
-first-pointer =
-    record {
-      mode = ap modeOf first-is ∙ controls .0;
-      last = ap nextOf first-is ∙ controls .1;
-      apart = spares 524270 524270 (subst On26 (sym first-is) first-on) (subst Below26 (sym first-is) first-below) own-first;
-    }
+first-pointer = record { mode = ap modeOf first-is ∙ controls .0; last = ap nextOf first-is ∙ controls .1; apart = spares first-known first-known }
 
 second-pointer : Pointer memory 3
-second-pointer =
-    record {
-      mode = ap modeOf second-is ∙ controls .2;
-      last = ap nextOf second-is ∙ controls .3;
-      apart = spares 3 3 (subst On26 (sym second-is) second-on) (subst Below26 (sym second-is) second-below) own-second;
-    }
+second-pointer = record { mode = ap modeOf second-is ∙ controls .2; last = ap nextOf second-is ∙ controls .3; apart = spares second-known second-known }
 
 pair : Pair memory 524270 3
-pair =
-    record {
-      first = first-pointer;
-      second = second-pointer;
-      there = spares 524270 3 (subst On26 (sym first-is) first-on) (subst Below26 (sym second-is) second-below) own-second;
-      back = spares 3 524270 (subst On26 (sym second-is) second-on) (subst Below26 (sym first-is) first-below) own-first;
-    }
+pair = record { first = first-pointer; second = second-pointer; there = spares first-known second-known; back = spares second-known first-known }
 
 -- the first is drawn in one run, and in three; the second in one
 abbrev once : Drawing
@@ -193,7 +182,7 @@ there v m long = ap (λ (x : List ℕ). getD x 26 0) (sym (set-xor 26 v m)) ∙ 
 pub example-drawn : getD (drawn once memory) 26 0 ≡ 15
 example-drawn =
     ap (λ (x : List ℕ). getD x 26 0)
-    (drawn-block first-pointer self {d = once} (ap goodLength memory-long ∙ shortest) once-ends ∙ block-xors memory memory 524270 first-pointer self ∙ first-does)
+    (drawn-block first-pointer self once (ap goodLength memory-long ∙ shortest) once-ends ∙ block-xors memory memory 524270 first-pointer self ∙ first-does)
     ∙ there 5 (xorAt 26 3 memory) (ap length (sym (set-xor 26 3 memory)) ∙ length-set memory 26 _ ∙ memory-long)
     ∙ ap (λ (v : ℕ). bitXor v 5) (there 3 memory memory-long ∙ ap (λ (v : ℕ). bitXor v 3) (cell-is 26 (lit< tt)))
   where

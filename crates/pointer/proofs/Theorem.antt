@@ -2,24 +2,25 @@
 use mathlib.Core.Path.{_≡_, refl, sym, _∙_, ap, subst}
 use mathlib.Core.Bool.{Bool, true, false}
 use mathlib.Core.List.{List, [], _∷_}
-use Prim.Native.Nat.{ℕ, zero, suc, _+_, _*_, _%_, _≤_, _<_}
+use Prim.Native.Nat.{ℕ, zero, suc, _+_, _*_, _%_, _<_}
 use native.Mathlib.Omega.{arith}
 use lib.Dec.{ltb, lit<}
 use lib.ListN.{length}
+use Rattle.laws.proofs.Choice.{by-cond}
 use Rattle.vram.specs.Memory.{goodLength, place}
 use Rattle.block.specs.Fold.{each}
 use Rattle.block.specs.Block.{blockAt, columnsOf, rowsOf, nextOf, destAddress}
 use Rattle.block.specs.Byte.{sizeOf, destOf, blockMem}
 use Rattle.block.specs.declared.Block.{Block}
-use Rattle.block.proofs.Byte.{place-length, block-length}
+use Rattle.block.proofs.Byte.{place-length}
 use Rattle.block.proofs.Place.{row-of, col-of, inside}
 use Rattle.block.proofs.Sizes.{columns-pos}
 use Rattle.board.specs.Board.{soundBoard, writeBoard, runAnswer, runBoard, runMemory}
 use Rattle.board.specs.declared.Board.{Board}
-use Rattle.lists.specs.Bench.{Bench, bench, ran, runs, sum, allowed}
+use Rattle.lists.specs.Bench.{Bench, bench, runs}
 use Rattle.lists.specs.Ends.{nthBlock, Chain, listTicks, listMemory, Ends}
 use Rattle.lists.proofs.Theorem.{ends}
-use Rattle.pointer.specs.Pointer.{Spares, Pointer, Drawing, drawn, ToTheEnd, Erases, Pair, BothOrders}
+use Rattle.pointer.specs.Pointer.{Spares, Pointer, Drawing, drawn, ToTheEnd, Erases, BothOrders}
 use Rattle.pointer.proofs.Xors.{Stands, stands-self, stands-after, xors, block-xors, xors-twice, xors-swap}
 
 -- the destination at a row and a column is that of the n-th byte
@@ -77,16 +78,16 @@ module _ {mem x : List ℕ} {a : ℕ} (p : Pointer mem a) (s : Stands mem x a) w
       (subst (λ (y : ℕ). Ends (bench (writeBoard b 0x53 v) x) (listTicks x y 1) (listMemory x y 1)) at
       (ends b x 1 v sound (ap goodLength (s .long) ∙ good) odd (subst (λ (y : ℕ). Chain x y 1) (sym at) chain))))
 
-  pub drawn-block : {d : Drawing} → goodLength (length mem) ≡ true → ToTheEnd mem a d → drawn d x ≡ blockMem (blockAt mem a) (sizeOf (blockAt mem a)) x
-  drawn-block {d = d} good t = pointer-ends good (d .board) (d .start) (t .sound) (t .address) (t .odd) .memory (d .budgets) (t .small) (t .enough)
+  pub drawn-block : (d : Drawing) → goodLength (length mem) ≡ true → ToTheEnd mem a d → drawn d x ≡ blockMem (blockAt mem a) (sizeOf (blockAt mem a)) x
+  drawn-block d good t = pointer-ends good (d .board) (d .start) (t .sound) (t .address) (t .odd) .memory (d .budgets) (t .small) (t .enough)
 
 -- two drawings, the first of which spares the second's list
 in-turn :
-    {mem : List ℕ} {a z : ℕ} {d e : Drawing} → Pointer mem a → Pointer mem z → Spares mem a z → ToTheEnd mem a d → ToTheEnd mem z e → goodLength (length mem) ≡ true
+    {mem : List ℕ} {a z : ℕ} (d e : Drawing) → Pointer mem a → Pointer mem z → Spares mem a z → ToTheEnd mem a d → ToTheEnd mem z e → goodLength (length mem) ≡ true
     → drawn e (drawn d mem) ≡ xors mem z (xors mem a mem)
-in-turn {mem = mem} {a = a} {z = z} {d = d} {e = e} p q spares t u good =
-    ap (drawn e) (drawn-block p self {d = d} good t)
-    ∙ drawn-block q there {d = e} good u
+in-turn {mem = mem} {a = a} {z = z} d e p q spares t u good =
+    ap (drawn e) (drawn-block p self d good t)
+    ∙ drawn-block q there e good u
     ∙ block-xors mem _ z q there
     ∙ ap (xors mem z) (block-xors mem mem a p self)
   where
@@ -96,34 +97,33 @@ in-turn {mem = mem} {a = a} {z = z} {d = d} {e = e} p q spares t u good =
     there : Stands mem (blockMem (blockAt mem a) (sizeOf (blockAt mem a)) mem) z
     there = stands-after spares (stands-self mem z) (sizeOf (blockAt mem a)) (omega arith)
 
--- a memory of another length is never run on
-refused-same : (ns : List ℕ) (s : Bench) → goodLength (length (s .mem)) ≡ false → runs ns s .mem ≡ s .mem
+-- where the length is not a board's, every run is refused
+never-run : (ns : List ℕ) (s : Bench) → goodLength (length (s .mem)) ≡ false → runs ns s .mem ≡ s .mem
 unfolding runs
-refused-same [] s bad = refl
-refused-same (n ∷ ns) s bad = subst (λ (m : List ℕ). runs ns (bench (runBoard (s .board) (s .mem) n) m) .mem ≡ s .mem) (sym same) (refused-same ns (bench (runBoard (s .board) (s .mem) n) (s .mem)) bad)
+never-run [] s bad = refl
+never-run (n ∷ ns) s bad = ap (λ (m : List ℕ). runs ns (bench board m) .mem) same ∙ never-run ns (bench board (s .mem)) bad
   where
+    board : Board
+    board = runBoard (s .board) (s .mem) n
+
     same : runMemory (s .board) (s .mem) n ≡ s .mem
     same = unfold runMemory runAnswer in rw bad
 
-both-refused : (d e : Drawing) (mem : List ℕ) → goodLength (length mem) ≡ false → drawn e (drawn d mem) ≡ mem
-both-refused d e mem bad = ap (drawn e) (refused-same (d .budgets) _ bad) ∙ refused-same (e .budgets) _ bad
+never-drawn : (d e : Drawing) (mem : List ℕ) → goodLength (length mem) ≡ false → drawn e (drawn d mem) ≡ mem
+never-drawn d e mem bad = ap (drawn e) (never-run (d .budgets) _ bad) ∙ never-run (e .budgets) _ bad
 
--- whether its length is a board's or not
+-- so the length need not be known
 either-way : {P : Type 0} (mem : List ℕ) → (goodLength (length mem) ≡ true → P) → (goodLength (length mem) ≡ false → P) → P
-either-way {P = P} mem f g = by (goodLength (length mem)) refl
-  where
-    by : (t : Bool) → goodLength (length mem) ≡ t → P
-    by true good = f good
-    by false bad = g bad
+either-way {P = P} mem = by-cond (λ (_ : Bool). P) (goodLength (length mem)) true false
 
 pub erases : Erases
-erases mem a d e p t u = either-way mem (λ good. in-turn {d = d} {e = e} p p (p .apart) t u good ∙ xors-twice mem mem a) (both-refused d e mem)
+erases mem a d e p t u = either-way mem (λ good. in-turn d e p p (p .apart) t u good ∙ xors-twice mem mem a) (never-drawn d e mem)
 
 pub both-orders : BothOrders
 both-orders mem a z d d′ e e′ p t t′ u u′ =
     either-way mem
     (λ good.
-    in-turn {d = d} {e = e} (p .first) (p .second) (p .there) t u good
+    in-turn d e (p .first) (p .second) (p .there) t u good
     ∙ xors-swap mem mem a z
-    ∙ sym (in-turn {d = e′} {e = d′} (p .second) (p .first) (p .back) u′ t′ good))
-    (λ bad. both-refused d e mem bad ∙ sym (both-refused e′ d′ mem bad))
+    ∙ sym (in-turn e′ d′ (p .second) (p .first) (p .back) u′ t′ good))
+    (λ bad. never-drawn d e mem bad ∙ sym (never-drawn e′ d′ mem bad))

@@ -11,7 +11,7 @@ use Rattle.block.specs.Block.{blockAt, modeOf, nextOf}
 use Rattle.block.specs.Byte.{readsSource, sizeOf, destOf, sourceOf}
 use Rattle.board.specs.Board.{soundBoard, writeBoard}
 use Rattle.board.specs.declared.Board.{Board}
-use Rattle.lists.specs.Bench.{Bench, bench, runs, sum, allowed}
+use Rattle.lists.specs.Bench.{bench, runs, sum, allowed}
 
 -- "destinations meeting no source or block byte": those of the list at a, and those of the list at z, each of one block; "modulo L"
 pub record Spares (mem : List ℕ) (a z : ℕ) : Type 0 where
