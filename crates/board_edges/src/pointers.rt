@@ -93,7 +93,7 @@ fn without_source() {
     block.source.adr1 = 0x21;
     block.width0 = 1;
     block.control = 5;
-    twice(b"mode 5 on its source, AND 0", b"\x00\x01", block, 0x2100);
+    twice(b"mode 5 on its source, AND 0", b"\x03\x01", block, 0x2100);
 }
 
 // The destination is the block's own XOR mask.
