@@ -13,7 +13,7 @@ use Rattle.board.specs.Board.{soundBoard, writeBoard}
 use Rattle.board.specs.declared.Board.{Board}
 use Rattle.lists.specs.Bench.{bench, runs, sum, allowed}
 
--- "destinations meeting no source or block byte": those of the list at a, and those of the list at z, each of one block; "modulo L"
+-- "destinations meeting no source or block byte", "modulo L": the destinations of the list at a, the sources and the block bytes of the list at z
 pub record Spares (mem : List ℕ) (a z : ℕ) : Type 0 where
   -- a source is a byte that is read: with AND 0 there are none
   pub sources :
@@ -39,7 +39,7 @@ pub record Drawing : Type 0 where
 abbrev pub drawn : Drawing → List ℕ → List ℕ
 drawn d mem = runs (d .budgets) (bench (writeBoard (d .board) 0x53 (d .start)) mem) .mem
 
--- "run to the end", of the list at a: on any sound board whose BL_ADR it is, started by bit 0, in runs that are not refused and have the ticks of its load and its bytes
+-- "run to the end", of the list at a: on any sound board whose BL_ADR it is, started by bit 0, in runs that are not refused and together have the ticks of its load and its bytes
 pub record ToTheEnd (mem : List ℕ) (a : ℕ) (d : Drawing) : Type 0 where
   pub sound : soundBoard (d .board) ≡ true
   pub address : d .board .ports .bladr ≡ a
