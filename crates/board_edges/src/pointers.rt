@@ -23,7 +23,7 @@ fn draw_twice(name: &[u8], mem: &mut [u8], at: u32) {
     show::cells(mem, at);
 }
 
-// And whether memory is as it was.
+// The same, and whether memory is as it was.
 fn twice(name: &[u8], cells: &[u8], block: Block, at: u32) {
     let mut mem = [0u8; 16384];
     let mut before = [0u8; 16384];
@@ -41,7 +41,7 @@ fn pointer() -> Block {
     block
 }
 
-// Two bytes, both on the cell that holds 9, from 3 and 5. Each collision is told.
+// Two bytes, both on the cell that holds 9, from 3 and 5. Every colour collides.
 fn repeated() -> Block {
     let mut block = pointer();
     block.dest.x = 0;
@@ -96,9 +96,9 @@ fn without_source() {
     twice(b"mode 5 on its source, AND 0", b"\x03\x01", block, 0x2100);
 }
 
-// The destination is the block's own XOR mask.
+// The destination, 16,400, is the cell of the block's own XOR mask.
 fn on_its_block() {
-    let mut block = blitlist::fill(0, 77);
+    let mut block = blitlist::fill(0x40, 77);
     block.dest.adr0 = 16;
     block.control = 5;
     twice(b"mode 5 on its XOR mask", b"", block, 16);

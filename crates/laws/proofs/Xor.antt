@@ -37,7 +37,7 @@ xor-swap =
 pub xor-twice : (a b : ℕ) → bitXor (bitXor a b) b ≡ a
 xor-twice a b = ap (λ (x : ℕ). bitXor x b) (xor-comm a b) ∙ xor-swap b a b ∙ ap (λ (x : ℕ). bitXor x a) (xor-self b)
 
--- the number at a place of a list; past its end nothing
+-- into the number at a place of a list; past its end nothing is done
 unfoldable pub xorAt : ℕ → ℕ → List ℕ → List ℕ
 xorAt p v [] = []
 xorAt zero v (x ∷ m) = bitXor x v ∷ m

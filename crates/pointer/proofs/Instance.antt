@@ -108,7 +108,7 @@ second-below : Below26 second
 unfolding readsSource blockAt
 second-below n l r = absurd (true≢false (sym r))
 
--- and no byte of either list is cell 26
+-- what is known of the list at a: destinations on 26, sources below it, its own bytes elsewhere
 record Known (a : ℕ) : Type 0 where
   on : On26 (blockAt memory a)
   below : Below26 (blockAt memory a)

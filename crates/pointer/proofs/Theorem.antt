@@ -34,7 +34,7 @@ module _ {mem x : List ℕ} {a : ℕ} (p : Pointer mem a) (s : Stands mem x a) w
   abbrev block : Block
   block = blockAt mem a
 
-  -- its first block is its last
+  -- the list's first block there is the pointer's
   first-is : nthBlock x a 0 ≡ block
   first-is = ap (blockAt x) (let e : a + 21 * 0 ≡ a = omega arith in e) ∙ s .block
 
@@ -46,7 +46,7 @@ module _ {mem x : List ℕ} {a : ℕ} (p : Pointer mem a) (s : Stands mem x a) w
       p .apart .bytes (row * columnsOf block + col) j (inside (columnsOf block) (columns-pos block) (rowsOf block) row col r c) l
       (dest-at mem block row col c ∙ sym (place-length x mem _ (s .long)) ∙ sym e ∙ place-length x mem (a + j) (s .long))
 
-  -- it is one of A10's
+  -- it is one of A10's lists
   chain : Chain x a 1
   chain = record { some = lit< tt; links = links; apart = apart }
     where

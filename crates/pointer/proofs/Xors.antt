@@ -1,4 +1,4 @@
--- A block of mode 5 that spares its sources is a row of exclusive ors, each with a place and a value that are known beforehand. Assumes nothing.
+-- A block of mode 5 that spares its sources is a sequence of exclusive ors, each with a place and a value that are known beforehand. Assumes nothing.
 use mathlib.Core.Path.{_≡_, refl, sym, _∙_, ap}
 use mathlib.Core.Bool.{Bool, true, false}
 use mathlib.Core.List.{List}
@@ -26,7 +26,7 @@ xor-byte : (k : Block) (n : ℕ) (mem : List ℕ) → modeOf k ≡ 5 → written
 unfolding written destOf destByte writesIn valueIn
 xor-byte k n mem five = rw five (set-xor _ _ mem)
 
--- a source that is not read has no byte of memory in it
+-- where no source is read, s does not depend on memory
 unread : (x y : List ℕ) (k : Block) (n : ℕ) → readsSource k ≡ false → valueOf x k n ≡ valueOf y k n
 unfolding sourceByte
 unread x y k n e = rw e

@@ -39,7 +39,7 @@ pub record Drawing : Type 0 where
 abbrev pub drawn : Drawing → List ℕ → List ℕ
 drawn d mem = runs (d .budgets) (bench (writeBoard (d .board) 0x53 (d .start)) mem) .mem
 
--- "run to the end", of the list at a: on any sound board whose BL_ADR it is, started by bit 0, in runs that are not refused and together have the ticks of its load and its bytes
+-- "run to the end", of the list at a: on any sound board whose BL_ADR is a, started by bit 0, with budgets of at most 1,000,000 that together have the ticks of its load and its bytes
 pub record ToTheEnd (mem : List ℕ) (a : ℕ) (d : Drawing) : Type 0 where
   pub sound : soundBoard (d .board) ≡ true
   pub address : d .board .ports .bladr ≡ a
