@@ -4,7 +4,7 @@
 
 mod common;
 
-use common::cells::{block_at, cell, destination, destinations, own, BLOCK};
+use common::cells::{block_at, cell, destination, destinations, list_cells, BLOCK};
 use common::*;
 use std::collections::BTreeSet;
 use twin::card::Card;
@@ -85,7 +85,7 @@ fn blocks(mem: &[u8], list: u32) -> Option<Vec<[u8; BLOCK]>> {
 
 /// Whether no destination of a list falls on one of its own bytes, written or not.
 fn spares_itself(blocks: &[[u8; BLOCK]], list: u32, length: usize) -> bool {
-    let own = own(list, blocks.len(), length);
+    let own = list_cells(list, blocks.len(), length);
     blocks
         .iter()
         .all(|block| destinations(block, length).is_disjoint(&own))

@@ -1337,7 +1337,7 @@ worked! {
 
     fn a_pointer_on_its_own_source<C>() {
         // Read, 3 makes 0 of itself, and 0 stays; with AND 0 it is no source, and 77 undoes itself.
-        for (and, once, twice) in [(0xFF, 0, 0), (0, 3 ^ 77, 3)] {
+        for (and, once, twice) in [(0xFF, 0, 0), (0, 78, 3)] {
             let block = Bcb {
                 source: 0x2100,
                 dest: 0x2100,
@@ -1348,11 +1348,13 @@ worked! {
             };
             let mut rig = Rig::<C>::with_blocks(&[block]);
             rig.mem[0x2100] = 3;
+            let before = rig.mem.clone();
             rig.run_all();
             assert_eq!(rig.mem[0x2100], once);
             rig.write(0x53, 1);
             rig.run_all();
             assert_eq!(rig.mem[0x2100], twice);
+            assert_eq!(rig.mem == before, and == 0);
         }
     }
 
@@ -1376,7 +1378,7 @@ worked! {
         {
             let first = Bcb { source: 0x2104, dest: 0x2100, width: 3, control: 5, ..Bcb::default() };
             let second = Bcb { dest, width: 3, and: 0, xor: 0x70, control: 5, ..Bcb::default() };
-            for (order, cells) in [([0, 256], one), ([256, 0], other)] {
+            let [a, b] = [([0, 256], one), ([256, 0], other)].map(|(order, cells)| {
                 let mut rig = Rig::<C>::with_blocks(&[first]);
                 rig.put(256, &second.bytes());
                 rig.put(0x2100, &[0x10, 0x10, 0x10, 0x10, 1, 2, 4]);
@@ -1385,7 +1387,9 @@ worked! {
                     rig.run_all();
                 }
                 assert_eq!(rig.cells(0x2100, 7), cells);
-            }
+                rig.mem
+            });
+            assert_eq!(a == b, one == other);
         }
     }
 

@@ -47,7 +47,7 @@ pub fn source(block: &[u8; BLOCK], row: u32, column: u32) -> i64 {
     )
 }
 
-/// The cells of one address for each row and column.
+/// The cells of an address, over all rows and columns.
 fn each(
     block: &[u8; BLOCK],
     length: usize,
@@ -65,16 +65,21 @@ pub fn destinations(block: &[u8; BLOCK], length: usize) -> BTreeSet<usize> {
     each(block, length, destination)
 }
 
+/// What its source address points to, read or not.
+pub fn pointed(block: &[u8; BLOCK], length: usize) -> BTreeSet<usize> {
+    each(block, length, source)
+}
+
 /// The bytes that it reads: none with AND 0, and none in mode 7.
 pub fn sources(block: &[u8; BLOCK], length: usize) -> BTreeSet<usize> {
     if block[15] == 0 || block[20] & 7 == 7 {
         return BTreeSet::new();
     }
-    each(block, length, source)
+    pointed(block, length)
 }
 
 /// The bytes of a list of so many blocks.
-pub fn own(list: u32, blocks: usize, length: usize) -> BTreeSet<usize> {
+pub fn list_cells(list: u32, blocks: usize, length: usize) -> BTreeSet<usize> {
     (0..BLOCK * blocks)
         .map(|number| cell(i64::from(list) + number as i64, length))
         .collect()

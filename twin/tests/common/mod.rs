@@ -277,11 +277,16 @@ impl<C: Card> Rig<C> {
         Rig::with_list(0, blocks)
     }
 
-    pub fn start_list(&mut self, list: u32) {
+    /// BL_ADR.
+    pub fn point_to(&mut self, list: u32) {
         let bytes = list.to_le_bytes();
         self.write(0x50, bytes[0]);
         self.write(0x51, bytes[1]);
         self.write(0x52, bytes[2]);
+    }
+
+    pub fn start_list(&mut self, list: u32) {
+        self.point_to(list);
         self.write(0x53, 1);
     }
 
