@@ -12,7 +12,7 @@ use Rattle.vram.specs.Memory.{goodLength}
 use Rattle.blitter.specs.State.{soundBlitter, stopped, interrupts}
 use Rattle.engine.specs.Tick.{tickBlitter, tickMemory, tickCount}
 use Rattle.engine.specs.Run as blit
-use Rattle.engine.specs.Run.{Counts, Running, ticked, onward, runFor, begun, counted}
+use Rattle.engine.specs.Run.{Counts, Progress, ticked, onward, runFor, begun, counted}
 use Rattle.blitter.specs.declared.Blitter.{Blitter}
 use Rattle.board.specs.declared.Ports.{Ports}
 use Rattle.board.specs.declared.Board.{Board}
@@ -112,7 +112,7 @@ module _ (b : Blitter) (mem : List ℕ) where
 module _ (b : Board) (mem : List ℕ) where
   pub tick-answer : runAnswer b mem 1 ≡ tickAnswer b mem
   unfolding runAnswer tickAnswer
-  tick-answer = ap (λ (r : Running). unless (goodLength (length mem)) 1 (unless (soundBoard b) 15 (counted r))) (one-tick (b .blitter) mem)
+  tick-answer = ap (λ (r : Progress). unless (goodLength (length mem)) 1 (unless (soundBoard b) 15 (counted r))) (one-tick (b .blitter) mem)
 
   pub tick-board : runBoard b mem 1 ≡ tickBoard b mem
   unfolding runBoard tickBoard

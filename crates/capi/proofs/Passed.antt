@@ -21,7 +21,7 @@ use Rattle.plan.proofs.Refused.{roomless, no-room}
 use Rattle.words.specs.Words.{laid}
 use Rattle.boardwords.specs.Board.{boardSize, boardOf, boardWords, boardFits}
 use Rattle.framewords.specs.Frame.{settingsSize, frameSize, settingsWords, frameOf, frameWords, frameFits}
-use Rattle.capi.specs.Calls.{numberTold, reported, whole, reportable, countWords, newCall, newWords, writeCall, writeWords, readCall, resetCall, resetWords, tickCall, tickWords, tickBytes, tickReport}
+use Rattle.capi.specs.Calls.{numberTold, reportLaid, whole, reportable, countWords, newCall, newWords, writeCall, writeWords, readCall, resetCall, resetWords, tickCall, tickWords, tickBytes, tickReport}
 use Rattle.capi.specs.Calls.{runCall, runUnreported, runWords, runBytes, runReport, startCall, lineCall, lineWords, lineSettings, compileCall, compileBytes, compileReport}
 use Rattle.capi.proofs.Told.{past, roomy, short, as-number, as-change, as-report, done-number, done-change, done-report, short-change, short-report, kept-twice}
 
@@ -83,7 +83,7 @@ module _ (board : List ℕ) (b : Board) (enough : boardSize ≤ length board) (f
 
     pub run-done :
         2 ≤ length report → (told : Told Counts) (a : Board) (k : ℕ) (now bytes counts : List ℕ)
-        → k ≡ numberTold told → now ≡ kept told board (laid (boardWords a) board) → counts ≡ reported countWords told report
+        → k ≡ numberTold told → now ≡ kept told board (laid (boardWords a) board) → counts ≡ reportLaid countWords told report
         → told ≡ runAnswer b mem budget → a ≡ runBoard b mem budget → bytes ≡ runMemory b mem budget
         → Runs k now bytes counts
     unfolding runMemory
@@ -131,7 +131,7 @@ module _ (board mem report : List ℕ) where
         e .0 ∙ ap numberTold tick-call,
         (
           e .1 .0 ∙ (λ i. kept (tick-call i) board (laid (boardWords (tick-board b mem i)) board)),
-          (e .1 .1 .0 ∙ (λ i. kept (tick-call i) mem (tick-memory b mem i)), e .1 .1 .1 ∙ (λ i. reported countWords (tick-call i) report)),
+          (e .1 .1 .0 ∙ (λ i. kept (tick-call i) mem (tick-memory b mem i)), e .1 .1 .1 ∙ (λ i. reportLaid countWords (tick-call i) report)),
         ),
       )
 

@@ -8,7 +8,7 @@ use lib.ListN.{length}
 use borrow.Author.Tests.{le-leb, lt-leb}
 use Rattle.refusal.specs.Sheet.{Told, done, refused, unless, kept}
 use Rattle.words.specs.Words.{laid}
-use Rattle.capi.specs.Calls.{numberTold, reported, reportable}
+use Rattle.capi.specs.Calls.{numberTold, reportLaid, reportable}
 
 -- item 0 adds nothing
 pub alone : (k : ℕ) → k ≡ k + 256 * 0
@@ -21,8 +21,8 @@ module _ {X : Type 0} (call : Told X) (k item : ℕ) (e : call ≡ refused k ite
   pub no-change : {A : Type 0} (old new : A) → old ≡ kept call old new
   no-change old new = sym (ap (λ (t : Told X). kept t old new) e)
 
-  pub no-report : (f : X → List ℕ) (old : List ℕ) → old ≡ reported f call old
-  no-report f old = sym (ap (λ (t : Told X). reported f t old) e)
+  pub no-report : (f : X → List ℕ) (old : List ℕ) → old ≡ reportLaid f call old
+  no-report f old = sym (ap (λ (t : Told X). reportLaid f t old) e)
 
 module _ {X : Type 0} (call : Told X) (v : X) (e : call ≡ done v) where
   pub done-number : 0 ≡ numberTold call
@@ -31,8 +31,8 @@ module _ {X : Type 0} (call : Told X) (v : X) (e : call ≡ done v) where
   pub done-change : {A : Type 0} (old new now : A) → now ≡ new → now ≡ kept call old new
   done-change old new now p = p ∙ sym (ap (λ (t : Told X). kept t old new) e)
 
-  pub done-report : (f : X → List ℕ) (old now : List ℕ) → now ≡ laid (f v) old → now ≡ reported f call old
-  done-report f old now p = p ∙ sym (ap (λ (t : Told X). reported f t old) e)
+  pub done-report : (f : X → List ℕ) (old now : List ℕ) → now ≡ laid (f v) old → now ≡ reportLaid f call old
+  done-report f old now p = p ∙ sym (ap (λ (t : Told X). reportLaid f t old) e)
 
 module _ {X : Type 0} (call told : Told X) (e : call ≡ told) where
   pub as-number : (k : ℕ) → k ≡ numberTold told → k ≡ numberTold call
@@ -41,8 +41,8 @@ module _ {X : Type 0} (call told : Told X) (e : call ≡ told) where
   pub as-change : {A : Type 0} (old new new′ now : A) → new ≡ new′ → now ≡ kept told old new → now ≡ kept call old new′
   as-change old new new′ now p q = q ∙ ap (kept told old) p ∙ sym (ap (λ (t : Told X). kept t old new′) e)
 
-  pub as-report : (f : X → List ℕ) (old now : List ℕ) → now ≡ reported f told old → now ≡ reported f call old
-  as-report f old now p = p ∙ sym (ap (λ (t : Told X). reported f t old) e)
+  pub as-report : (f : X → List ℕ) (old now : List ℕ) → now ≡ reportLaid f told old → now ≡ reportLaid f call old
+  as-report f old now p = p ∙ sym (ap (λ (t : Told X). reportLaid f t old) e)
 
 -- a test that is passed
 pub past : {X : Type 0} (t : Bool) (k : ℕ) (rest : Told X) → t ≡ true → unless t k rest ≡ rest
@@ -62,16 +62,16 @@ module _ {X : Type 0} (n : ℕ) (report : List ℕ) (h : length report < n) wher
   unchanged (done v) old new = ap (λ (t : Told X). kept t old new) (short v)
   unchanged (refused k item) old new = refl
 
-  unreported : (told : Told X) (f : X → List ℕ) (old : List ℕ) → reported f (reportable n report told) old ≡ old
-  unreported (done v) f old = ap (λ (t : Told X). reported f t old) (short v)
+  unreported : (told : Told X) (f : X → List ℕ) (old : List ℕ) → reportLaid f (reportable n report told) old ≡ old
+  unreported (done v) f old = ap (λ (t : Told X). reportLaid f t old) (short v)
   unreported (refused k item) f old = refl
 
   module _ (call told : Told X) (e : call ≡ reportable n report told) where
     pub short-change : {A : Type 0} (old new : A) → old ≡ kept call old new
     short-change old new = sym (ap (λ (t : Told X). kept t old new) e ∙ unchanged told old new)
 
-    pub short-report : (f : X → List ℕ) (old : List ℕ) → old ≡ reported f call old
-    short-report f old = sym (ap (λ (t : Told X). reported f t old) e ∙ unreported told f old)
+    pub short-report : (f : X → List ℕ) (old : List ℕ) → old ≡ reportLaid f call old
+    short-report f old = sym (ap (λ (t : Told X). reportLaid f t old) e ∙ unreported told f old)
 
 -- what is kept where a call is refused is kept
 pub kept-twice : {X A : Type 0} (told : Told X) (old new : A) → kept told old new ≡ kept told old (kept told old new)

@@ -22,9 +22,9 @@ numberTold (done v) = 0
 numberTold (refused number item) = number + 256 * item
 
 -- where it was done its values are laid over what is lent; "A refused call changes nothing that was lent to it"
-abbrev pub reported : {X : Type 0} → (X → List ℕ) → Told X → List ℕ → List ℕ
-reported words (done v) old = laid (words v) old
-reported words (refused number item) old = old
+abbrev pub reportLaid : {X : Type 0} → (X → List ℕ) → Told X → List ℕ → List ℕ
+reportLaid words (done v) old = laid (words v) old
+reportLaid words (refused number item) old = old
 
 -- "A state's buffer that is shorter than the state is refusal 15"
 abbrev pub whole : {X : Type 0} → ℕ → List ℕ → Told X → Told X
@@ -57,7 +57,7 @@ readCall board offset report =
     (whole boardSize board (unless (boardFits board) 15 (readAnswer (boardOf board) offset)))
 
 abbrev pub readReport : List ℕ → ℕ → List ℕ → List ℕ
-readReport board offset report = reported (λ v. v ∷ []) (readCall board offset report) report
+readReport board offset report = reportLaid (λ v. v ∷ []) (readCall board offset report) report
 
 -- "RESET: refusal 15."
 unfoldable pub resetCall : List ℕ → Told (Unit {0})
@@ -84,7 +84,7 @@ abbrev pub tickBytes : List ℕ → List ℕ → List ℕ → List ℕ
 tickBytes board mem report = kept (tickCall board mem report) mem (tickMem (boardOf board) mem)
 
 abbrev pub tickReport : List ℕ → List ℕ → List ℕ → List ℕ
-tickReport board mem report = reported countWords (tickCall board mem report) report
+tickReport board mem report = reportLaid countWords (tickCall board mem report) report
 
 -- "A run: refusals 1, 15, 2, 13."
 unfoldable pub runCall : List ℕ → List ℕ → ℕ → List ℕ → Told Counts
@@ -105,7 +105,7 @@ abbrev pub runBytes : List ℕ → List ℕ → ℕ → List ℕ → List ℕ
 runBytes board mem budget report = kept (runCall board mem budget report) mem (runMemory (boardOf board) mem budget)
 
 abbrev pub runReport : List ℕ → List ℕ → ℕ → List ℕ → List ℕ
-runReport board mem budget report = reported countWords (runCall board mem budget report) report
+runReport board mem budget report = reportLaid countWords (runCall board mem budget report) report
 
 -- "Frame start: refusal 15. Makes a frame from a board."
 unfoldable pub startCall : List ℕ → List ℕ → Told Frame
@@ -114,7 +114,7 @@ startCall board frame =
     (whole frameSize frame (unless (boardFits board) 15 (startAnswer (boardOf board))))
 
 abbrev pub startWords : List ℕ → List ℕ → List ℕ
-startWords board frame = reported frameWords (startCall board frame) frame
+startWords board frame = reportLaid frameWords (startCall board frame) frame
 
 -- "The next line: refusals 1, 15, 4, 13. The frame goes on, and the line's settings go to settings[0..18]."
 unfoldable pub lineCall : List ℕ → List ℕ → List ℕ → Told Settings
@@ -127,7 +127,7 @@ abbrev pub lineWords : List ℕ → List ℕ → List ℕ → List ℕ
 lineWords frame mem settings = kept (lineCall frame mem settings) frame (laid (frameWords (lineFrame (frameOf frame) mem)) frame)
 
 abbrev pub lineSettings : List ℕ → List ℕ → List ℕ → List ℕ
-lineSettings frame mem settings = reported settingsWords (lineCall frame mem settings) settings
+lineSettings frame mem settings = reportLaid settingsWords (lineCall frame mem settings) settings
 
 -- "Compiles a plan: refusals 6, 5, 7 to 11, 13. The number of bytes goes to report[0]."
 unfoldable pub compileCall : List ℕ → ℕ → List ℕ → Told ℕ
@@ -137,4 +137,4 @@ abbrev pub compileBytes : List ℕ → List ℕ → List ℕ → List ℕ
 compileBytes plan out report = kept (compileCall plan (length out) report) out (compileOutput plan out)
 
 abbrev pub compileReport : List ℕ → ℕ → List ℕ → List ℕ
-compileReport plan room report = reported (λ n. n ∷ []) (compileCall plan room report) report
+compileReport plan room report = reportLaid (λ n. n ∷ []) (compileCall plan room report) report

@@ -11,7 +11,7 @@ ghost use Rattle.words.specs.Words.{laid};
 ghost use Rattle.boardwords.specs.Board.{boardOf, boardWords};
 ghost use Rattle.capi.specs.Calls.{
   numberTold,
-  reported,
+  reportLaid,
   countWords,
   newCall,
   newWords,
@@ -73,7 +73,7 @@ fn settle(board: &mut [u32], changed: Changed) -> u32
 fn settle_run(board: &mut [u32], report: &mut [u32], ran: Ran) -> u32
     ensures number { λ r. ⌜ r ≡ numberTold (runTold (ran .report)) ⌝ }
     ensures board { λ _. ⌜ now (board .exit) ≡ kept (runTold (ran .report)) (now (board .entry)) (laid (boardWords (ran .board)) (now (board .entry))) ⌝ }
-    ensures report { λ _. ⌜ now (report .exit) ≡ reported countWords (runTold (ran .report)) (now (report .entry)) ⌝ }
+    ensures report { λ _. ⌜ now (report .exit) ≡ reportLaid countWords (runTold (ran .report)) (now (report .entry)) ⌝ }
 {
     let told = ran.report;
     match told {

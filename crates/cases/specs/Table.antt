@@ -65,8 +65,8 @@ unfoldable pub linesFrom : ℕ → List ℕ → Frame → List ℕ
 linesFrom zero mem f = []
 linesFrom (suc n) mem f = lineAs (lineAnswer f mem) (linesFrom n mem (lineFrame f mem))
 
-abbrev pub linesOf : ℕ → List ℕ → ℕ → List ℕ
-linesOf n xdl zeros = linesFrom n (xdl ++ replicate zeros 0) (startOf 0 1)
+abbrev pub linesTold : ℕ → List ℕ → ℕ → List ℕ
+linesTold n xdl zeros = linesFrom n (xdl ++ replicate zeros 0) (startOf 0 1)
 
 abbrev pub table : List Case
 table =
@@ -78,9 +78,9 @@ table =
     ∷ record { says = "mode 2, d=200, s=100: 44"; gives = writesAs (strokeOf 2 0 100 200 0); paper = 1 ∷ 44 ∷ [] }
     ∷ record { says = "mode 6, s=50h, d=9Ah, mask 10h, code 0: writes 5Ah, code 90h"; gives = writesAs (strokeOf 6 0x10 0x50 0x9A 0) ++ (codeIn 6 0x10 0x50 0x9A 0 ∷ []); paper = 1 ∷ 0x5A ∷ 0x90 ∷ [] }
     ∷ record { says = "W=10, Q=4: source columns 0 1 2 3 0 1 2 3 0 1"; gives = sourceColumns 10 0; paper = 0 ∷ 1 ∷ 2 ∷ 3 ∷ 0 ∷ 1 ∷ 2 ∷ 3 ∷ 0 ∷ 1 ∷ [] }
-    ∷ record { says = "XDL 62 80 02 00 10 00 40 01: SR at 1000h, 1140h, 1280h, then off, address 13C0h"; gives = linesOf 4 (0x62 ∷ 0x80 ∷ 0x02 ∷ 0x00 ∷ 0x10 ∷ 0x00 ∷ 0x40 ∷ 0x01 ∷ []) 16376; paper = 2 ∷ 0x1000 ∷ 2 ∷ 0x1140 ∷ 2 ∷ 0x1280 ∷ 0 ∷ 0x13C0 ∷ [] }
-    ∷ record { says = "SR, OVADR 7FFFFh, step 1: next line 0"; gives = linesOf 2 (0x62 ∷ 0x00 ∷ 0x01 ∷ 0xFF ∷ 0xFF ∷ 0x07 ∷ 0x01 ∷ 0x00 ∷ []) 16376; paper = 2 ∷ 0x7FFFF ∷ 2 ∷ 0 ∷ [] }
-    ∷ record { says = "control 03 00: off"; gives = linesOf 2 (0x02 ∷ 0x00 ∷ 0x03 ∷ 0x00 ∷ []) 16380; paper = 2 ∷ 0 ∷ 0 ∷ 0 ∷ [] }
+    ∷ record { says = "XDL 62 80 02 00 10 00 40 01: SR at 1000h, 1140h, 1280h, then off, address 13C0h"; gives = linesTold 4 (0x62 ∷ 0x80 ∷ 0x02 ∷ 0x00 ∷ 0x10 ∷ 0x00 ∷ 0x40 ∷ 0x01 ∷ []) 16376; paper = 2 ∷ 0x1000 ∷ 2 ∷ 0x1140 ∷ 2 ∷ 0x1280 ∷ 0 ∷ 0x13C0 ∷ [] }
+    ∷ record { says = "SR, OVADR 7FFFFh, step 1: next line 0"; gives = linesTold 2 (0x62 ∷ 0x00 ∷ 0x01 ∷ 0xFF ∷ 0xFF ∷ 0x07 ∷ 0x01 ∷ 0x00 ∷ []) 16376; paper = 2 ∷ 0x7FFFF ∷ 2 ∷ 0 ∷ [] }
+    ∷ record { says = "control 03 00: off"; gives = linesTold 2 (0x02 ∷ 0x00 ∷ 0x03 ∷ 0x00 ∷ []) 16380; paper = 2 ∷ 0 ∷ 0 ∷ 0 ∷ [] }
     ∷ []
 
 -- the words of the cases that come out otherwise than the paper says

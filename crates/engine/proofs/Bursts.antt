@@ -16,10 +16,10 @@ use Rattle.block.specs.Byte.{written, struckAt}
 use Rattle.block.specs.declared.Block.{Block}
 use Rattle.block.specs.declared.Struck.{Struck}
 use Rattle.block.proofs.Byte.{written-length, struck-small}
-use Rattle.stretch.specs.Stretch.{Drawing, drawing, strokes, drawn}
+use Rattle.stretch.specs.Stretch.{Trace, trace, strokes, traceOf}
 use Rattle.blitter.specs.declared.Blitter.{Blitter}
-use Rattle.engine.specs.Tick.{busyAt, ended, advanced, byteTick, tickBlitter, tickMemory, tickCount}
-use Rattle.engine.specs.Run.{Running, ticked, runFor, running}
+use Rattle.engine.specs.Tick.{busyAt, ended, movedOn, byteTick, tickBlitter, tickMemory, tickCount}
+use Rattle.engine.specs.Run.{Progress, ticked, runFor, progress}
 use Rattle.engine.specs.Engine.{BurstFrom, BurstTo, Column, Row, Reach, tallOf, sourceStep, destStep, aheadRow, aheadCol, stretchAt}
 use Rattle.blitter.proofs.Sound.{Inside, Sound, sound-test, first-inside}
 use Rattle.engine.proofs.Tick.{busy-sound, ended-sound}
@@ -47,7 +47,7 @@ pub record Bursting (b : Blitter) (first : List ℕ) (ticks accesses budget : �
   pub begun : ticks ≤ done
   pub within : done ≤ budget
   pub counted : made ≤ 21 * done
-  pub same : runFor (budget - done) (running (busyAt b row col code) mem done made) ≡ runFor (budget - ticks) (running b first ticks accesses)
+  pub same : runFor (budget - done) (progress (busyAt b row col code) mem done made) ≡ runFor (budget - ticks) (progress b first ticks accesses)
 
 module _ {b : Blitter} {first : List ℕ} {ticks accesses budget : ℕ} where
   pub burst-start : BurstFrom b first ticks accesses budget → Bursting b first ticks accesses budget first (b .row) (b .col) (b .code) ticks accesses
@@ -59,7 +59,7 @@ module _ {b : Blitter} {first : List ℕ} {ticks accesses budget : ℕ} where
         begun = omega arith;
         within = omega (arith, f .left);
         counted = f .counted;
-        same = ap (λ (x : Blitter). runFor (budget - ticks) (running x first ticks accesses)) (as-busy b (b .row) (b .col) (b .code) (f .busy));
+        same = ap (λ (x : Blitter). runFor (budget - ticks) (progress x first ticks accesses)) (as-busy b (b .row) (b .col) (b .code) (f .busy));
       }
 
   module _ {mem : List ℕ} {row col code done made : ℕ} (g : Bursting b first ticks accesses budget mem row col code done made) where
@@ -81,12 +81,12 @@ module _ {b : Blitter} {first : List ℕ} {ticks accesses budget : ℕ} where
       byte : Struck
       byte = struckAt (b .block) mem row col code
 
-      on : runFor (budget - (done + 1)) (running (advanced (busyAt b row col code) (byte .code)) (written (b .block) row col mem) (done + 1) (made + byte .accesses))
-          ≡ runFor (budget - ticks) (running b first ticks accesses)
+      on : runFor (budget - (done + 1)) (progress (movedOn (busyAt b row col code) (byte .code)) (written (b .block) row col mem) (done + 1) (made + byte .accesses))
+          ≡ runFor (budget - ticks) (progress b first ticks accesses)
       unfolding byte ticked tickBlitter tickMemory tickCount byteTick
       on =
-          sym (run-tick (budget - (done + 1)) (running (busyAt b row col code) mem done made) (λ e. absurd (let z : _≡_ {A = ℕ} 2 0 = e in omega arith)))
-          ∙ ap (λ (k : ℕ). runFor k (running (busyAt b row col code) mem done made)) (less budget done h)
+          sym (run-tick (budget - (done + 1)) (progress (busyAt b row col code) mem done made) (λ e. absurd (let z : _≡_ {A = ℕ} 2 0 = e in omega arith)))
+          ∙ ap (λ (k : ℕ). runFor k (progress (busyAt b row col code) mem done made)) (less budget done h)
           ∙ g .same
 
       long-on : length (written (b .block) row col mem) ≡ length first
@@ -98,7 +98,7 @@ module _ {b : Blitter} {first : List ℕ} {ticks accesses budget : ℕ} where
 
       -- the next column
       turn-col : col + 1 < columnsOf (b .block) → Bursting b first ticks accesses budget (written (b .block) row col mem) row (col + 1) (struckAt (b .block) mem row col code .code) (done + 1) (made + struckAt (b .block) mem row col code .accesses)
-      unfolding byte advanced
+      unfolding byte movedOn
       turn-col k =
           record {
             from = g .from;
@@ -112,7 +112,7 @@ module _ {b : Blitter} {first : List ℕ} {ticks accesses budget : ℕ} where
 
       -- the next row
       turn-row : columnsOf (b .block) ≤ col + 1 → row + 1 < rowsOf (b .block) → Bursting b first ticks accesses budget (written (b .block) row col mem) (row + 1) 0 (struckAt (b .block) mem row col code .code) (done + 1) (made + struckAt (b .block) mem row col code .accesses)
-      unfolding byte advanced
+      unfolding byte movedOn
       turn-row k l =
           record {
             from = g .from;
@@ -126,7 +126,7 @@ module _ {b : Blitter} {first : List ℕ} {ticks accesses budget : ℕ} where
 
       -- the block's end
       turn-end : columnsOf (b .block) ≤ col + 1 → rowsOf (b .block) ≤ row + 1 → BurstTo b first ticks accesses budget (ended b (struckAt (b .block) mem row col code .code)) (written (b .block) row col mem) (done + 1) (made + struckAt (b .block) mem row col code .accesses)
-      unfolding byte advanced ended
+      unfolding byte movedOn ended
       turn-end k l =
           record {
             sound = sound-test _ (ended-sound b _ (g .from .list));
@@ -154,19 +154,19 @@ none-col true col = refl
 none-col false col = add-zero col
 
 module _ (b : Blitter) (first : List ℕ) (ticks accesses budget : ℕ) where
-  abbrev At : Drawing → ℕ → ℕ → ℕ → Type 0
+  abbrev At : Trace → ℕ → ℕ → ℕ → Type 0
   At d row col done = Bursting b first ticks accesses budget (d .mem) row col (d .code) done (d .accesses)
 
   -- the same, of equal parts
-  moved : (d e : Drawing) (row row′ col col′ done done′ : ℕ) → d ≡ e → row ≡ row′ → col ≡ col′ → done ≡ done′ → At d row col done → At e row′ col′ done′
+  moved : (d e : Trace) (row row′ col col′ done done′ : ℕ) → d ≡ e → row ≡ row′ → col ≡ col′ → done ≡ done′ → At d row col done → At e row′ col′ done′
   moved d e row row′ col col′ done done′ p q r s x =
       subst (λ (z : ℕ). At e row′ col′ z) s
-      (subst (λ (z : ℕ). At e row′ z done) r (subst (λ (z : ℕ). At e z col done) q (subst (λ (z : Drawing). At z row col done) p x)))
+      (subst (λ (z : ℕ). At e row′ z done) r (subst (λ (z : ℕ). At e z col done) q (subst (λ (z : Trace). At z row col done) p x)))
 
   module _ {mem : List ℕ} {row col code done made : ℕ} (g : Bursting b first ticks accesses budget mem row col code done made) where
     -- so many bytes of the stretch, counted on from what was made
-    abbrev many : ℕ → Drawing
-    many k = strokes (b .block) (sourceStep (b .block)) (destStep (b .block)) k (sourceAddress (b .block) row col) (destAddress (b .block) row col) (drawing mem code made)
+    abbrev many : ℕ → Trace
+    many k = strokes (b .block) (sourceStep (b .block)) (destStep (b .block)) k (sourceAddress (b .block) row col) (destAddress (b .block) row col) (trace mem code made)
 
     -- where the byte k on stands
     abbrev rowOn : ℕ → ℕ
@@ -176,10 +176,10 @@ module _ (b : Blitter) (first : List ℕ) (ticks accesses budget : ℕ) where
     colOn k = aheadCol (b .block) col k
 
     one-more : (k : ℕ) → Reach (b .block) row col (suc k)
-        → drawing (written (b .block) (rowOn k) (colOn k) (many k .mem)) (struckAt (b .block) (many k .mem) (rowOn k) (colOn k) (many k .code) .code) (many k .accesses + struckAt (b .block) (many k .mem) (rowOn k) (colOn k) (many k .code) .accesses)
+        → trace (written (b .block) (rowOn k) (colOn k) (many k .mem)) (struckAt (b .block) (many k .mem) (rowOn k) (colOn k) (many k .code) .code) (many k .accesses + struckAt (b .block) (many k .mem) (rowOn k) (colOn k) (many k .code) .accesses)
         ≡ many (suc k)
     one-more k r =
-        sym (strokes-last (b .block) (sourceStep (b .block)) (destStep (b .block)) k (sourceAddress (b .block) row col) (destAddress (b .block) row col) (drawing mem code made)
+        sym (strokes-last (b .block) (sourceStep (b .block)) (destStep (b .block)) k (sourceAddress (b .block) row col) (destAddress (b .block) row col) (trace mem code made)
         ∙ struck-at (b .block) (rowOn k) (colOn k) _ _ (many k .mem) (many k .code) (many k .accesses) (source-on (b .block) row col k r) (dest-on (b .block) row col k))
 
     -- one turn more, down a tall block
@@ -206,7 +206,7 @@ module _ (b : Blitter) (first : List ℕ) (ticks accesses budget : ℕ) where
     turns : (k : ℕ) → Reach (b .block) row col (suc k) → done + k < budget → At (many k) (rowOn k) (colOn k) (done + k)
     unfolding strokes
     turns zero r h =
-        moved (drawing mem code made) (drawing mem code made) row (rowOn 0) col (colOn 0) done (done + 0) refl
+        moved (trace mem code made) (trace mem code made) row (rowOn 0) col (colOn 0) done (done + 0) refl
         (sym (none-row (tallOf (b .block)) row)) (sym (none-col (tallOf (b .block)) col)) (sym (add-zero done)) g
     turns (suc k) r h =
         let before : At (many k) (rowOn k) (colOn k) (done + k) = turns k (reach-less (b .block) row col (suc (suc k)) (suc k) (omega arith) r) (omega arith) in
@@ -214,7 +214,7 @@ module _ (b : Blitter) (first : List ℕ) (ticks accesses budget : ℕ) where
 
     -- a whole stretch: d is what is drawn
     module _ (count : ℕ) (some : 0 < count) (r : Reach (b .block) row col count) (room : done + count ≤ budget)
-        (d : Drawing) (e : d ≡ drawn (b .block) (stretchAt (b .block) row col count) mem code) where
+        (d : Trace) (e : d ≡ traceOf (b .block) (stretchAt (b .block) row col count) mem code) where
       board-in : goodLength (length mem) ≡ true
       board-in = ap goodLength (g .long) ∙ g .from .board
 
@@ -225,23 +225,23 @@ module _ (b : Blitter) (first : List ℕ) (ticks accesses budget : ℕ) where
       last-reach = reach-less (b .block) row col count (suc (count - 1)) (omega arith) r
 
       -- what is made with it
-      abbrev sum : Drawing
-      sum = drawing (d .mem) (d .code) (made + d .accesses)
+      abbrev sum : Trace
+      sum = trace (d .mem) (d .code) (made + d .accesses)
 
       whole : many (suc (count - 1)) ≡ sum
-      unfolding drawn
+      unfolding traceOf
       whole =
           ap (λ (n : ℕ). many n) suc-is
-          ∙ ap (λ (a : ℕ). strokes (b .block) (sourceStep (b .block)) (destStep (b .block)) count (sourceAddress (b .block) row col) (destAddress (b .block) row col) (drawing mem code a)) (sym (add-zero made))
+          ∙ ap (λ (a : ℕ). strokes (b .block) (sourceStep (b .block)) (destStep (b .block)) count (sourceAddress (b .block) row col) (destAddress (b .block) row col) (trace mem code a)) (sym (add-zero made))
           ∙ strokes-from (b .block) (sourceStep (b .block)) (destStep (b .block)) count (sourceAddress (b .block) row col) (destAddress (b .block) row col) mem code made 0
-          ∙ ap (λ (z : Drawing). drawing (z .mem) (z .code) (made + z .accesses)) (sym (e ∙ rw board-in refl))
+          ∙ ap (λ (z : Trace). trace (z .mem) (z .code) (made + z .accesses)) (sym (e ∙ rw board-in refl))
 
       -- its accesses are few
       pub stretch-few : d .accesses ≤ 3 * count
-      unfolding drawn
+      unfolding traceOf
       stretch-few =
           rw (e, board-in)
-          (omega (arith, strokes-few (b .block) (sourceStep (b .block)) (destStep (b .block)) count (sourceAddress (b .block) row col) (destAddress (b .block) row col) (drawing mem code 0)))
+          (omega (arith, strokes-few (b .block) (sourceStep (b .block)) (destStep (b .block)) count (sourceAddress (b .block) row col) (destAddress (b .block) row col) (trace mem code 0)))
 
       last : At (many (count - 1)) (rowOn (count - 1)) (colOn (count - 1)) (done + (count - 1))
       last = turns (count - 1) last-reach (omega arith)
@@ -266,5 +266,5 @@ module _ (b : Blitter) (first : List ℕ) (ticks accesses budget : ℕ) where
           → BurstTo b first ticks accesses budget (ended b (d .code)) (d .mem) (done + count) (made + d .accesses)
       stretch-end h k =
           subst (λ (z : ℕ). BurstTo b first ticks accesses budget (ended b (d .code)) (d .mem) z (made + d .accesses)) all-done
-          (subst (λ (z : Drawing). BurstTo b first ticks accesses budget (ended b (z .code)) (z .mem) (done + (count - 1) + 1) (z .accesses)) (one-more (count - 1) last-reach ∙ whole)
+          (subst (λ (z : Trace). BurstTo b first ticks accesses budget (ended b (z .code)) (z .mem) (done + (count - 1) + 1) (z .accesses)) (one-more (count - 1) last-reach ∙ whole)
           (turn-end last (omega arith) h k))

@@ -11,8 +11,8 @@ use Rattle.block.specs.Byte.{written}
 use Rattle.block.proofs.Byte.{code-byte, written-bytes}
 use Rattle.block.proofs.Bytes.{SideBytes, BlockBytes, block-bytes}
 use Rattle.blitter.specs.declared.Blitter.{Blitter}
-use Rattle.engine.specs.Tick.{loadTick, ended, advanced, byteTick, tickBlitter, tickMemory}
-use Rattle.engine.specs.Run.{Running, ticked, runFor}
+use Rattle.engine.specs.Tick.{loadTick, ended, movedOn, byteTick, tickBlitter, tickMemory}
+use Rattle.engine.specs.Run.{Progress, ticked, runFor}
 use Rattle.engine.specs.Machine.{Machine, tock, after}
 use Rattle.engine.proofs.Runs.{run-keeps}
 use Rattle.engine.proofs.Machine.{after-keeps}
@@ -47,8 +47,8 @@ none-bytes =
       control = omega arith;
     }
 
-advanced-held : (b : Blitter) (code : ℕ) → BlockBytes (b .block) → code < 256 → Held (advanced b code)
-unfolding advanced ended
+advanced-held : (b : Blitter) (code : ℕ) → BlockBytes (b .block) → code < 256 → Held (movedOn b code)
+unfolding movedOn ended
 advanced-held b code k c =
     by-cond Held (ltb (b .col + 1) (columnsOf (b .block))) _ _ (λ _. record { block-in = k; code-in = c })
     (λ _. by-cond Held (ltb (b .row + 1) (rowsOf (b .block))) _ _ (λ _. record { block-in = k; code-in = c })
@@ -71,5 +71,5 @@ tick-bytes b mem h = by (eqb (b .flags) 0) (eqb (b .flags) 1)
 pub after-bytes : (n : ℕ) (s : Machine) → Bytes (s .blitter) (s .mem) → Bytes (after n s .blitter) (after n s .mem)
 after-bytes n s = after-keeps (λ (q : Machine). Bytes (q .blitter) (q .mem)) (λ q h. unfold tock in tick-bytes (q .blitter) (q .mem) h) n s
 
-pub run-bytes : (n : ℕ) (r : Running) → Bytes (r .blitter) (r .mem) → Bytes (runFor n r .blitter) (runFor n r .mem)
-run-bytes n r = run-keeps (λ (q : Running). Bytes (q .blitter) (q .mem)) (λ q h. unfold ticked in tick-bytes (q .blitter) (q .mem) h) n r
+pub run-bytes : (n : ℕ) (r : Progress) → Bytes (r .blitter) (r .mem) → Bytes (runFor n r .blitter) (runFor n r .mem)
+run-bytes n r = run-keeps (λ (q : Progress). Bytes (q .blitter) (q .mem)) (λ q h. unfold ticked in tick-bytes (q .blitter) (q .mem) h) n r

@@ -10,7 +10,7 @@ use borrow.Author.Tests.{ltb-true, ltb-false, leb-true, leb-false, lt-ltb}
 use Rattle.laws.proofs.Choice.{by-cond, both, and-both}
 use Rattle.vram.specs.Memory.{goodLength}
 use Rattle.block.specs.Block.{columnsOf, rowsOf}
-use Rattle.stretch.specs.Stretch.{Drawing, drawn}
+use Rattle.stretch.specs.Stretch.{Trace, traceOf}
 use Rattle.stretch.specs.declared.Stretch.{Stretch}
 use Rattle.stretch.specs.Flat.{flatCount, firstOf}
 use Rattle.stretch.proofs.Fitting.{some-drawn, few-drawn}
@@ -47,7 +47,7 @@ module _ {b : Blitter} {first : List ℕ} {ticks accesses budget : ℕ} where
 -- behind a whole stretch: d is what is drawn
 module _ (b : Blitter) (first : List ℕ) (ticks accesses budget : ℕ) {mem : List ℕ} {row col code done made : ℕ} (g : Bursting b first ticks accesses budget mem row col code done made)
     (count : ℕ) (some : 0 < count) (r : Reach (b .block) row col count) (room : done + count ≤ budget)
-    (d : Drawing) (e : d ≡ drawn (b .block) (stretchAt (b .block) row col count) mem code) where
+    (d : Trace) (e : d ≡ traceOf (b .block) (stretchAt (b .block) row col count) mem code) where
   abbrev lastRow : ℕ
   lastRow = aheadRow (b .block) row (count - 1)
 
@@ -80,14 +80,14 @@ module _ (b : Blitter) (first : List ℕ) (ticks accesses budget : ℕ) {mem : L
           }
 
 -- a part of a stretch, drawn at once: of most bytes count are, and d is what they make
-pub record AtOnce (b : Blitter) (first : List ℕ) (ticks accesses budget : ℕ) (mem : List ℕ) (row col code done made most count : ℕ) (d : Drawing) : Type 0 where
+pub record AtOnce (b : Blitter) (first : List ℕ) (ticks accesses budget : ℕ) (mem : List ℕ) (row col code done made most count : ℕ) (d : Trace) : Type 0 where
   pub going : Bursting b first ticks accesses budget mem row col code done made
   pub level : levelBlock (b .block) ≡ true
   pub some : 0 < most
   pub reached : Reach (b .block) row col most
   pub room : most ≤ budget - done
   pub part : count ≡ flatCount (length mem) (b .block) (stretchAt (b .block) row col most)
-  pub drawn-is : d ≡ drawn (b .block) (stretchAt (b .block) row col count) mem code
+  pub drawn-is : d ≡ traceOf (b .block) (stretchAt (b .block) row col count) mem code
 
 -- as the program comes to it
 module _ {b : Blitter} {first : List ℕ} {ticks accesses budget : ℕ} {mem : List ℕ} {row col code done made rows : ℕ} (t : Turned b first ticks accesses budget mem row col code done made)
@@ -99,7 +99,7 @@ module _ {b : Blitter} {first : List ℕ} {ticks accesses budget : ℕ} {mem : L
   turned-going = t .going (omega (arith, ltb-true row rows (both (ltb row rows) (ltb done budget) test .0)))
 
   pub at-once : levelBlock (b .block) ≡ true → {reached most : ℕ} → Reach (b .block) row col reached → (0 < most) × (most ≤ reached) × (most ≤ budget - done)
-      → {bytes : Stretch} → bytes ≡ stretchAt (b .block) row col most → {count : ℕ} {d : Drawing} → count ≡ flatCount (length mem) (b .block) bytes → d ≡ drawn (b .block) (firstOf bytes count) mem code
+      → {bytes : Stretch} → bytes ≡ stretchAt (b .block) row col most → {count : ℕ} {d : Trace} → count ≡ flatCount (length mem) (b .block) bytes → d ≡ traceOf (b .block) (firstOf bytes count) mem code
       → AtOnce b first ticks accesses budget mem row col code done made most count d
   at-once l {reached} {most} r (some, few, room) {bytes} s {count} c i =
       record {
@@ -109,10 +109,10 @@ module _ {b : Blitter} {first : List ℕ} {ticks accesses budget : ℕ} {mem : L
         reached = reach-less (b .block) row col reached most few r;
         room = room;
         part = c ∙ ap (flatCount (length mem) (b .block)) s;
-        drawn-is = i ∙ ap (λ (x : Stretch). drawn (b .block) (firstOf x count) mem code) s;
+        drawn-is = i ∙ ap (λ (x : Stretch). traceOf (b .block) (firstOf x count) mem code) s;
       }
 
-module _ {b : Blitter} {first : List ℕ} {ticks accesses budget : ℕ} {mem : List ℕ} {row col code done made most count : ℕ} {d : Drawing}
+module _ {b : Blitter} {first : List ℕ} {ticks accesses budget : ℕ} {mem : List ℕ} {row col code done made most count : ℕ} {d : Trace}
     (o : AtOnce b first ticks accesses budget mem row col code done made most count d) where
   tests : (goodLength (length mem) && levelBlock (b .block)) ≡ true
   tests = and-both (goodLength (length mem)) (levelBlock (b .block)) (ap goodLength (o .going .long) ∙ o .going .from .board) (o .level)

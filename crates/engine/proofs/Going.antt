@@ -10,7 +10,7 @@ use Rattle.vram.specs.Memory.{goodLength}
 use Rattle.blitter.specs.declared.Blitter.{Blitter}
 use Rattle.blitter.specs.State.{soundBlitter}
 use Rattle.engine.specs.Tick.{loadTick, tickBlitter, tickMemory, tickCount}
-use Rattle.engine.specs.Run.{Running, ticked, runFor, running, begun}
+use Rattle.engine.specs.Run.{Progress, ticked, runFor, progress, begun}
 use Rattle.engine.specs.Engine.{BurstFrom, BurstTo}
 use Rattle.blitter.proofs.Sound.{Sound, sound-facts, sound-test}
 use Rattle.engine.proofs.Tick.{load-sound}
@@ -24,7 +24,7 @@ pub record Going (start : Blitter) (first : List ℕ) (budget : ℕ) (b : Blitte
   pub within : ticks ≤ budget
   pub counted : accesses ≤ 21 * ticks
   pub sound : soundBlitter b ≡ true
-  pub same : runFor (budget - ticks) (running b mem ticks accesses) ≡ runFor budget (begun start first)
+  pub same : runFor (budget - ticks) (progress b mem ticks accesses) ≡ runFor budget (begun start first)
 
 whole-left : (budget : ℕ) → budget - 0 ≡ budget
 whole-left budget = omega arith
@@ -39,13 +39,13 @@ module _ {start : Blitter} {first : List ℕ} {budget : ℕ} where
 
   module _ {b : Blitter} {mem : List ℕ} {ticks accesses : ℕ} (g : Going start first budget b mem ticks accesses) where
     -- the budget is used
-    pub going-used : budget ≤ ticks → running b mem ticks accesses ≡ runFor budget (begun start first)
+    pub going-used : budget ≤ ticks → progress b mem ticks accesses ≡ runFor budget (begun start first)
     unfolding runFor
-    going-used h = ap (λ (k : ℕ). runFor k (running b mem ticks accesses)) (none-left budget ticks h) ∙ g .same
+    going-used h = ap (λ (k : ℕ). runFor k (progress b mem ticks accesses)) (none-left budget ticks h) ∙ g .same
 
     -- the flags are 0
-    pub going-idle : b .flags ≡ 0 → running b mem ticks accesses ≡ runFor budget (begun start first)
-    going-idle e = sym (run-idle (budget - ticks) (running b mem ticks accesses) e) ∙ g .same
+    pub going-idle : b .flags ≡ 0 → progress b mem ticks accesses ≡ runFor budget (begun start first)
+    going-idle e = sym (run-idle (budget - ticks) (progress b mem ticks accesses) e) ∙ g .same
 
     module _ (h : ticks < budget) where
       -- a load
@@ -60,8 +60,8 @@ module _ {start : Blitter} {first : List ℕ} {budget : ℕ} where
             counted = omega (arith, g .counted);
             sound = sound-test _ (load-sound b mem);
             same =
-                rw (ne-eqb (b .flags) 0 (omega arith), eq-eqb (b .flags) 1 e) at (sym (run-tick (budget - (ticks + 1)) (running b mem ticks accesses) (omega arith)))
-                ∙ ap (λ (k : ℕ). runFor k (running b mem ticks accesses)) (less budget ticks h)
+                rw (ne-eqb (b .flags) 0 (omega arith), eq-eqb (b .flags) 1 e) at (sym (run-tick (budget - (ticks + 1)) (progress b mem ticks accesses) (omega arith)))
+                ∙ ap (λ (k : ℕ). runFor k (progress b mem ticks accesses)) (less budget ticks h)
                 ∙ g .same;
           }
 

@@ -9,7 +9,7 @@ use lib.ListN.{length}
 use borrow.Author.Tests.{eq-eqb, eqb-true}
 use Rattle.laws.proofs.Choice.{by-cond}
 use Rattle.engine.specs.Tick.{tickBlitter, tickMemory, tickCount}
-use Rattle.engine.specs.Run.{Running, ticked, onward, runFor, running}
+use Rattle.engine.specs.Run.{Progress, ticked, onward, runFor, progress}
 use Rattle.engine.specs.Machine.{Machine, machine, tock, after}
 use Rattle.blitter.proofs.Sound.{Sound}
 use Rattle.engine.proofs.Tick.{tick-sound, tick-length}
@@ -58,32 +58,32 @@ after-length n s =
     after-keeps (λ (q : Machine). length (q .mem) ≡ length (s .mem)) (λ q e. unfold tock in (tick-length (q .blitter) (q .mem) ∙ e)) n s refl
 
 -- a run without its counts
-abbrev pub bare : Running → Machine
+abbrev pub bare : Progress → Machine
 bare r = machine (r .blitter) (r .mem)
 
-onward-tock : (r : Running) → bare (onward r) ≡ tock (bare r)
+onward-tock : (r : Progress) → bare (onward r) ≡ tock (bare r)
 unfolding onward
 onward-tock r =
-    by-cond (λ (q : Running). bare q ≡ tock (bare r)) (eqb (r .blitter .flags) 0) r (ticked r)
+    by-cond (λ (q : Progress). bare q ≡ tock (bare r)) (eqb (r .blitter .flags) 0) r (ticked r)
     (λ e. sym (tock-idle (bare r) (eqb-true (r .blitter .flags) 0 e)))
     (λ _. unfold ticked tock in refl)
 
-pub run-after : (n : ℕ) (r : Running) → bare (runFor n r) ≡ after n (bare r)
+pub run-after : (n : ℕ) (r : Progress) → bare (runFor n r) ≡ after n (bare r)
 unfolding runFor
 run-after zero r = sym (after-none _)
 run-after (suc n) r = run-after n (onward r) ∙ ap (after n) (onward-tock r) ∙ sym (after-first n _)
 
 -- the run of a budget in two pieces
-pub run-add : (m n : ℕ) (r : Running) → runFor (m + n) r ≡ runFor n (runFor m r)
+pub run-add : (m n : ℕ) (r : Progress) → runFor (m + n) r ≡ runFor n (runFor m r)
 unfolding runFor
 run-add zero n r = rw (zero-add n)
 run-add (suc m) n r = rw (suc-add m n) (run-add m n (onward r))
 
 -- a tick of the budget is counted where the blitter is not idle before it
-pub run-count : (n : ℕ) (r : Running) → ((t : ℕ) → t < n → after t (bare r) .blitter .flags ≡ 0 → ⊥) → runFor n r .ticks ≡ r .ticks + n
+pub run-count : (n : ℕ) (r : Progress) → ((t : ℕ) → t < n → after t (bare r) .blitter .flags ≡ 0 → ⊥) → runFor n r .ticks ≡ r .ticks + n
 run-count zero r h = unfold runFor in sym (add-zero (r .ticks))
 run-count (suc n) r h =
-    ap (λ (x : Running). x .ticks) (run-tick n r (λ e. h 0 (omega arith) (rw (after-none (bare r)) e)))
+    ap (λ (x : Progress). x .ticks) (run-tick n r (λ e. h 0 (omega arith) (rw (after-none (bare r)) e)))
     ∙ run-count n (ticked r) (λ t l e. h (suc t) (omega arith) (rw (after-first t (bare r)) (unfold tock ticked in e)))
     ∙ unfold ticked in one (r .ticks) n
   where
@@ -91,19 +91,19 @@ run-count (suc n) r h =
     one a b = omega arith
 
 -- and never more than the budget
-pub run-most : (n : ℕ) (r : Running) → runFor n r .ticks ≤ r .ticks + n
+pub run-most : (n : ℕ) (r : Progress) → runFor n r .ticks ≤ r .ticks + n
 unfolding runFor
 run-most zero r = omega arith
 run-most (suc n) r = omega (arith, run-most n (onward r), one)
   where
     one : onward r .ticks ≤ r .ticks + 1
-    one = unfold onward in by-cond (λ (q : Running). q .ticks ≤ r .ticks + 1) (eqb (r .blitter .flags) 0) r (ticked r) (λ _. omega arith) (λ _. unfold ticked in omega arith)
+    one = unfold onward in by-cond (λ (q : Progress). q .ticks ≤ r .ticks + 1) (eqb (r .blitter .flags) 0) r (ticked r) (λ _. omega arith) (λ _. unfold ticked in omega arith)
 
 -- counts that were there before stay in front
-abbrev pub further : ℕ → ℕ → Running → Running
-further t a r = running (r .blitter) (r .mem) (t + r .ticks) (a + r .accesses)
+abbrev pub further : ℕ → ℕ → Progress → Progress
+further t a r = progress (r .blitter) (r .mem) (t + r .ticks) (a + r .accesses)
 
-onward-further : (t a : ℕ) (r : Running) → onward (further t a r) ≡ further t a (onward r)
+onward-further : (t a : ℕ) (r : Progress) → onward (further t a r) ≡ further t a (onward r)
 unfolding onward
 onward-further t a r = by (eqb (r .blitter .flags) 0)
   where
@@ -111,7 +111,7 @@ onward-further t a r = by (eqb (r .blitter .flags) 0)
     by true = refl
     by false = unfold ticked in rw (add-assoc t (r .ticks) 1, add-assoc a (r .accesses) (tickCount (r .blitter) (r .mem)))
 
-pub run-further : (n t a : ℕ) (r : Running) → runFor n (further t a r) ≡ further t a (runFor n r)
+pub run-further : (n t a : ℕ) (r : Progress) → runFor n (further t a r) ≡ further t a (runFor n r)
 unfolding runFor
 run-further zero t a r = refl
 run-further (suc n) t a r = ap (runFor n) (onward-further t a r) ∙ run-further n t a (onward r)

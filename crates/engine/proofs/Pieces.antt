@@ -9,7 +9,7 @@ use lib.ListN.{length}
 use Rattle.refusal.specs.Sheet.{Told, done, refused}
 use Rattle.vram.specs.Memory.{goodLength}
 use Rattle.blitter.specs.declared.Blitter.{Blitter}
-use Rattle.engine.specs.Run.{Running, Counts, runFor, begun, counted, runAnswer, runBlitter, runMemory}
+use Rattle.engine.specs.Run.{Progress, Counts, runFor, begun, counted, engineAnswer, engineBlitter, engineMemory}
 use Rattle.engine.specs.Machine.{Machine, machine, after}
 use Rattle.blitter.proofs.Sound.{Sound, sound-test}
 use Rattle.engine.proofs.Answer.{Gives, ran}
@@ -31,21 +31,21 @@ module _ {b : Blitter} {mem : List ℕ} {n : ℕ} (t : Taken b mem n) where
   gives : Gives b mem n (counted (runFor n (begun b mem))) (runFor n (begun b mem) .blitter) (runFor n (begun b mem) .mem)
   gives = ran b mem n (t .good) (sound-test b (t .sound)) (t .small)
 
-  pub taken-answer : runAnswer b mem n ≡ counted (runFor n (begun b mem))
+  pub taken-answer : engineAnswer b mem n ≡ counted (runFor n (begun b mem))
   taken-answer = sym (gives .0)
 
   -- what it leaves is what n ticks leave
-  pub taken-machine : machine (runBlitter b mem n) (runMemory b mem n) ≡ after n (machine b mem)
+  pub taken-machine : machine (engineBlitter b mem n) (engineMemory b mem n) ≡ after n (machine b mem)
   taken-machine = sym (λ i. machine (gives .1 .0 i) (gives .1 .1 i)) ∙ run-after n (begun b mem)
 
-  pub taken-sound : Sound (runBlitter b mem n)
+  pub taken-sound : Sound (engineBlitter b mem n)
   taken-sound = subst (λ (s : Machine). Sound (s .blitter)) (sym taken-machine) (after-sound n (machine b mem) (t .sound))
 
-  pub taken-length : length (runMemory b mem n) ≡ length mem
+  pub taken-length : length (engineMemory b mem n) ≡ length mem
   taken-length = ap (λ (s : Machine). length (s .mem)) taken-machine ∙ after-length n (machine b mem)
 
 -- a run so far, as one that begins anew
-as-further : (r : Running) → r ≡ further (r .ticks) (r .accesses) (begun (r .blitter) (r .mem))
+as-further : (r : Progress) → r ≡ further (r .ticks) (r .accesses) (begun (r .blitter) (r .mem))
 as-further r = sym (λ i. record { blitter = r .blitter; mem = r .mem; ticks = add-zero (r .ticks) i; accesses = add-zero (r .accesses) i })
 
 -- a budget in two pieces, taken or not: the counts of the first stand in front of those of the second
@@ -55,14 +55,14 @@ pub run-pieces :
     ≡ further (runFor m (begun b mem) .ticks) (runFor m (begun b mem) .accesses) (runFor n (begun (runFor m (begun b mem) .blitter) (runFor m (begun b mem) .mem)))
 run-pieces m n b mem = run-add m n (begun b mem) ∙ ap (runFor n) (as-further first) ∙ run-further n (first .ticks) (first .accesses) (begun (first .blitter) (first .mem))
   where
-    first : Running
+    first : Progress
     first = runFor m (begun b mem)
 
 module _ {b : Blitter} {mem : List ℕ} (m n : ℕ) (t : Taken b mem (m + n)) where
   pub first-taken : Taken b mem m
   first-taken = record { good = t .good; sound = t .sound; small = omega (arith, t .small) }
 
-  pub second-taken : Taken (runBlitter b mem m) (runMemory b mem m) n
+  pub second-taken : Taken (engineBlitter b mem m) (engineMemory b mem m) n
   second-taken =
       record {
         good = ap goodLength (taken-length first-taken) ∙ t .good;
@@ -71,19 +71,19 @@ module _ {b : Blitter} {mem : List ℕ} (m n : ℕ) (t : Taken b mem (m + n)) wh
       }
 
   pub pieces-machine :
-      machine (runBlitter (runBlitter b mem m) (runMemory b mem m) n) (runMemory (runBlitter b mem m) (runMemory b mem m) n)
-      ≡ machine (runBlitter b mem (m + n)) (runMemory b mem (m + n))
+      machine (engineBlitter (engineBlitter b mem m) (engineMemory b mem m) n) (engineMemory (engineBlitter b mem m) (engineMemory b mem m) n)
+      ≡ machine (engineBlitter b mem (m + n)) (engineMemory b mem (m + n))
   pieces-machine =
       taken-machine second-taken ∙ ap (after n) (taken-machine first-taken) ∙ sym (after-add m n (machine b mem)) ∙ sym (taken-machine t)
 
-  pub pieces-blitter : runBlitter (runBlitter b mem m) (runMemory b mem m) n ≡ runBlitter b mem (m + n)
+  pub pieces-blitter : engineBlitter (engineBlitter b mem m) (engineMemory b mem m) n ≡ engineBlitter b mem (m + n)
   pieces-blitter = ap (λ (s : Machine). s .blitter) pieces-machine
 
-  pub pieces-memory : runMemory (runBlitter b mem m) (runMemory b mem m) n ≡ runMemory b mem (m + n)
+  pub pieces-memory : engineMemory (engineBlitter b mem m) (engineMemory b mem m) n ≡ engineMemory b mem (m + n)
   pieces-memory = ap (λ (s : Machine). s .mem) pieces-machine
 
   -- ticks and accesses add up
-  pub pieces-answer : runAnswer b mem (m + n) ≡ added (runAnswer b mem m) (runAnswer (runBlitter b mem m) (runMemory b mem m) n)
+  pub pieces-answer : engineAnswer b mem (m + n) ≡ added (engineAnswer b mem m) (engineAnswer (engineBlitter b mem m) (engineMemory b mem m) n)
   pieces-answer =
       taken-answer t
       ∙ ap counted (run-pieces m n b mem)

@@ -9,34 +9,34 @@ use lib.ListN.{length}
 use borrow.Author.Tests.{eq-eqb, ne-eqb}
 use Rattle.laws.proofs.Choice.{by-cond}
 use Rattle.blitter.specs.declared.Blitter.{Blitter}
-use Rattle.engine.specs.Run.{Running, ticked, onward, runFor, running}
+use Rattle.engine.specs.Run.{Progress, ticked, onward, runFor, progress}
 use Rattle.engine.specs.Tick.{tickBlitter, tickMemory, tickCount}
 use Rattle.blitter.proofs.Sound.{Sound}
 use Rattle.engine.proofs.Tick.{tick-sound, tick-length, tick-small}
 
-pub run-idle : (n : ℕ) (r : Running) → r .blitter .flags ≡ 0 → runFor n r ≡ r
+pub run-idle : (n : ℕ) (r : Progress) → r .blitter .flags ≡ 0 → runFor n r ≡ r
 unfolding runFor onward
 run-idle zero r e = refl
 run-idle (suc n) r e = rw (eq-eqb (r .blitter .flags) 0 e) (run-idle n r e)
 
-pub run-tick : (n : ℕ) (r : Running) → (r .blitter .flags ≡ 0 → ⊥) → runFor (suc n) r ≡ runFor n (ticked r)
+pub run-tick : (n : ℕ) (r : Progress) → (r .blitter .flags ≡ 0 → ⊥) → runFor (suc n) r ≡ runFor n (ticked r)
 unfolding runFor onward
 run-tick n r h = rw (ne-eqb (r .blitter .flags) 0 h)
 
 -- what a tick keeps, a run keeps
-pub run-keeps : (P : Running → Type 0) → ((r : Running) → P r → P (ticked r)) → (n : ℕ) (r : Running) → P r → P (runFor n r)
+pub run-keeps : (P : Progress → Type 0) → ((r : Progress) → P r → P (ticked r)) → (n : ℕ) (r : Progress) → P r → P (runFor n r)
 unfolding runFor onward
 run-keeps P step zero r p = p
 run-keeps P step (suc n) r p = run-keeps P step n _ (by-cond P (eqb (r .blitter .flags) 0) r (ticked r) (λ _. p) (λ _. step r p))
 
-pub run-sound : (n : ℕ) (r : Running) → Sound (r .blitter) → Sound (runFor n r .blitter)
-run-sound n r = run-keeps (λ (q : Running). Sound (q .blitter)) (λ q s. unfold ticked in tick-sound (q .blitter) (q .mem) s) n r
+pub run-sound : (n : ℕ) (r : Progress) → Sound (r .blitter) → Sound (runFor n r .blitter)
+run-sound n r = run-keeps (λ (q : Progress). Sound (q .blitter)) (λ q s. unfold ticked in tick-sound (q .blitter) (q .mem) s) n r
 
-pub run-length : (n : ℕ) (r : Running) → length (runFor n r .mem) ≡ length (r .mem)
+pub run-length : (n : ℕ) (r : Progress) → length (runFor n r .mem) ≡ length (r .mem)
 run-length n r =
-    run-keeps (λ (q : Running). length (q .mem) ≡ length (r .mem)) (λ q e. unfold ticked in (tick-length (q .blitter) (q .mem) ∙ e)) n r refl
+    run-keeps (λ (q : Progress). length (q .mem) ≡ length (r .mem)) (λ q e. unfold ticked in (tick-length (q .blitter) (q .mem) ∙ e)) n r refl
 
 -- at most 21 accesses a tick
-pub run-few : (n : ℕ) (r : Running) → r .accesses ≤ 21 * r .ticks → runFor n r .accesses ≤ 21 * runFor n r .ticks
+pub run-few : (n : ℕ) (r : Progress) → r .accesses ≤ 21 * r .ticks → runFor n r .accesses ≤ 21 * runFor n r .ticks
 run-few n r =
-    run-keeps (λ (q : Running). q .accesses ≤ 21 * q .ticks) (λ q e. unfold ticked in omega (arith, tick-small (q .blitter) (q .mem))) n r
+    run-keeps (λ (q : Progress). q .accesses ≤ 21 * q .ticks) (λ q e. unfold ticked in omega (arith, tick-small (q .blitter) (q .mem))) n r

@@ -11,7 +11,7 @@ use Rattle.laws.proofs.Choice.{by-cond}
 use Rattle.block.specs.Block.{columnsOf, rowsOf, nextOf}
 use Rattle.block.proofs.Byte.{written-length, struck-small}
 use Rattle.blitter.specs.declared.Blitter.{Blitter}
-use Rattle.engine.specs.Tick.{loadTick, busyAt, ended, advanced, byteTick, tickBlitter, tickMemory, tickCount}
+use Rattle.engine.specs.Tick.{loadTick, busyAt, ended, movedOn, byteTick, tickBlitter, tickMemory, tickCount}
 use Rattle.blitter.proofs.Sound.{Inside, Sound, first-inside, blank-none}
 
 pub tick-length : (b : Blitter) (mem : List ℕ) → length (tickMemory b mem) ≡ length mem
@@ -47,8 +47,8 @@ ended-sound b code l =
     let low : cond (nextOf (b .block)) 1 0 ≤ 1 = by-cond (λ (n : ℕ). n ≤ 1) (nextOf (b .block)) 1 0 (λ _. omega arith) (λ _. omega arith) in
     record { list-in = l; flags-in = omega arith; busy = λ two. absurd (omega arith); idle = λ _. blank-none }
 
-pub advanced-sound : (b : Blitter) (code : ℕ) → b .list < 524288 → Inside (b .block) (b .row) (b .col) → Sound (advanced b code)
-unfolding advanced
+pub advanced-sound : (b : Blitter) (code : ℕ) → b .list < 524288 → Inside (b .block) (b .row) (b .col) → Sound (movedOn b code)
+unfolding movedOn
 advanced-sound b code l i =
     by-cond Sound (ltb (b .col + 1) (columnsOf (b .block))) _ _
     (λ e. busy-sound b (b .row) (b .col + 1) code l (record { row-in = i .row-in; col-in = ltb-true _ _ e }))

@@ -14,7 +14,7 @@ use Rattle.block.proofs.Byte.{block-none, block-next, code-none, code-next}
 use Rattle.block.proofs.Place.{next-col, next-row, more-rows, no-column, no-row}
 use Rattle.block.proofs.Sizes.{columns-pos, rows-pos}
 use Rattle.blitter.specs.declared.Blitter.{Blitter}
-use Rattle.engine.specs.Tick.{loadTick, busyAt, ended, advanced, byteTick, tickBlitter, tickMemory}
+use Rattle.engine.specs.Tick.{loadTick, busyAt, ended, movedOn, byteTick, tickBlitter, tickMemory}
 use Rattle.engine.specs.Machine.{Machine, machine, tock, after, holding, busyOn}
 use Rattle.engine.proofs.Machine.{after-none, after-suc, after-first}
 
@@ -26,17 +26,17 @@ module _ (b : Blitter) where
   -- one byte tick
   busy-tock :
       (row col code : ℕ) (mem : List ℕ)
-      → tock (machine (busyAt b row col code) mem) ≡ machine (advanced (busyAt b row col code) (struckAt (b .block) mem row col code .code)) (written (b .block) row col mem)
+      → tock (machine (busyAt b row col code) mem) ≡ machine (movedOn (busyAt b row col code) (struckAt (b .block) mem row col code .code)) (written (b .block) row col mem)
   unfolding tock tickBlitter tickMemory byteTick
   busy-tock row col code mem = refl
 
   module _ (code next n : ℕ) where
     -- the next byte
-    next-on : suc n < sizeOf (b .block) → advanced (busyOn b code n) next ≡ busyOn b next (suc n)
-    unfolding advanced
+    next-on : suc n < sizeOf (b .block) → movedOn (busyOn b code n) next ≡ busyOn b next (suc n)
+    unfolding movedOn
     next-on l = by (ltb (colAt (b .block) n + 1) (columnsOf (b .block))) refl
       where
-        by : (t : Bool) → ltb (colAt (b .block) n + 1) (columnsOf (b .block)) ≡ t → advanced (busyOn b code n) next ≡ busyOn b next (suc n)
+        by : (t : Bool) → ltb (colAt (b .block) n + 1) (columnsOf (b .block)) ≡ t → movedOn (busyOn b code n) next ≡ busyOn b next (suc n)
         by true e =
             let p = next-col (columnsOf (b .block)) (columns-pos (b .block)) n (ltb-true _ _ e) in
             rw (e, p .0, p .1)
@@ -46,8 +46,8 @@ module _ (b : Blitter) where
             rw (e, lt-ltb _ _ (more-rows (columnsOf (b .block)) (columns-pos (b .block)) (rowsOf (b .block)) n l h), p .0, p .1)
 
     -- the end
-    last-on : suc n ≡ sizeOf (b .block) → advanced (busyOn b code n) next ≡ ended b next
-    unfolding advanced ended
+    last-on : suc n ≡ sizeOf (b .block) → movedOn (busyOn b code n) next ≡ ended b next
+    unfolding movedOn ended
     last-on l =
         rw (
           le-ltb _ _ (no-column (columnsOf (b .block)) (columns-pos (b .block)) (rowsOf (b .block)) n l),
@@ -58,13 +58,13 @@ module _ (b : Blitter) where
     -- the tick of the n-th byte, and what it makes of the blitter
     step-on :
         (n : ℕ) (b′ : Blitter) → after n (machine (busyOn b code 0) mem) ≡ machine (busyOn b (blockCode (b .block) n mem code) n) (blockMem (b .block) n mem)
-        → advanced (busyOn b (blockCode (b .block) n mem code) n) (blockCode (b .block) (suc n) mem code) ≡ b′
+        → movedOn (busyOn b (blockCode (b .block) n mem code) n) (blockCode (b .block) (suc n) mem code) ≡ b′
         → after (suc n) (machine (busyOn b code 0) mem) ≡ machine b′ (blockMem (b .block) (suc n) mem)
     step-on n b′ before e =
         after-suc n _
         ∙ ap tock before
         ∙ busy-tock (rowAt (b .block) n) (colAt (b .block) n) (blockCode (b .block) n mem code) (blockMem (b .block) n mem)
-        ∙ sym (λ i. machine (advanced (busyOn b (blockCode (b .block) n mem code) n) (code-next (b .block) mem n code i)) (block-next (b .block) mem n i))
+        ∙ sym (λ i. machine (movedOn (busyOn b (blockCode (b .block) n mem code) n) (code-next (b .block) mem n code i)) (block-next (b .block) mem n i))
         ∙ ap (λ (x : Blitter). machine x (blockMem (b .block) (suc n) mem)) e
 
     -- a busy blitter after n bytes of its block

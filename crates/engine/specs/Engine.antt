@@ -16,7 +16,7 @@ use Rattle.blitter.specs.declared.Blitter.{Blitter}
 use Rattle.blitter.specs.State.{soundBlitter}
 use Rattle.engine.specs.declared.Place.{Place}
 use Rattle.engine.specs.Tick.{ended}
-use Rattle.engine.specs.Run.{runFor, running}
+use Rattle.engine.specs.Run.{runFor, progress}
 
 -- a place in a block, with "floor(row/ZY)" and "floor(col/ZX) mod Q", and what those divisions leave
 abbrev pub placeAt : Block → ℕ → ℕ → Place
@@ -114,4 +114,4 @@ pub record BurstTo (b : Blitter) (mem : List ℕ) (ticks accesses budget : ℕ) 
   pub further : ticks < ticks′
   pub within : ticks′ ≤ budget
   pub counted : accesses′ ≤ 21 * ticks′
-  pub same : runFor (budget - ticks′) (running b′ mem′ ticks′ accesses′) ≡ runFor (budget - ticks) (running b mem ticks accesses)
+  pub same : runFor (budget - ticks′) (progress b′ mem′ ticks′ accesses′) ≡ runFor (budget - ticks) (progress b mem ticks accesses)

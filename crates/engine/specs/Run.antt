@@ -13,14 +13,14 @@ use Rattle.blitter.specs.State.{soundBlitter}
 use Rattle.engine.specs.Tick.{tickBlitter, tickMemory, tickCount}
 
 -- a run so far: the blitter, memory, and the two counts
-pub record Running : Type 0 where
+pub record Progress : Type 0 where
   pub blitter : Blitter
   pub mem : List ℕ
   pub ticks : ℕ
   pub accesses : ℕ
 
 -- one tick more
-unfoldable pub ticked : Running → Running
+unfoldable pub ticked : Progress → Progress
 ticked r =
     record {
       blitter = tickBlitter (r .blitter) (r .mem);
@@ -30,19 +30,19 @@ ticked r =
     }
 
 -- a tick unless the flags are 0
-unfoldable pub onward : Running → Running
+unfoldable pub onward : Progress → Progress
 onward r = cond (eqb (r .blitter .flags) 0) r (ticked r)
 
 -- a budget's worth
-unfoldable pub runFor : ℕ → Running → Running
+unfoldable pub runFor : ℕ → Progress → Progress
 runFor zero r = r
 runFor (suc n) r = runFor n (onward r)
 
-abbrev pub running : Blitter → List ℕ → ℕ → ℕ → Running
-running b mem ticks accesses = record { blitter = b; mem = mem; ticks = ticks; accesses = accesses }
+abbrev pub progress : Blitter → List ℕ → ℕ → ℕ → Progress
+progress b mem ticks accesses = record { blitter = b; mem = mem; ticks = ticks; accesses = accesses }
 
-abbrev pub begun : Blitter → List ℕ → Running
-begun b mem = running b mem 0 0
+abbrev pub begun : Blitter → List ℕ → Progress
+begun b mem = progress b mem 0 0
 
 -- what is reported: ticks and accesses
 pub record Counts : Type 0 where
@@ -54,17 +54,17 @@ abbrev pub runTold : RunReport → Told Counts
 runTold (Ran t a) = done (record { ticks = t; accesses = a })
 runTold (Refused why) = refused (numberOf why) 0
 
-abbrev pub counted : Running → Told Counts
+abbrev pub counted : Progress → Told Counts
 counted r = done (record { ticks = r .ticks; accesses = r .accesses })
 
 -- 1 board, 15 state, 2 budget
-unfoldable pub runAnswer : Blitter → List ℕ → ℕ → Told Counts
-runAnswer b mem budget =
+unfoldable pub engineAnswer : Blitter → List ℕ → ℕ → Told Counts
+engineAnswer b mem budget =
     unless (goodLength (length mem)) 1
     (unless (soundBlitter b) 15 (unless (leb budget 1000000) 2 (counted (runFor budget (begun b mem)))))
 
-unfoldable pub runBlitter : Blitter → List ℕ → ℕ → Blitter
-runBlitter b mem budget = kept (runAnswer b mem budget) b (runFor budget (begun b mem) .blitter)
+unfoldable pub engineBlitter : Blitter → List ℕ → ℕ → Blitter
+engineBlitter b mem budget = kept (engineAnswer b mem budget) b (runFor budget (begun b mem) .blitter)
 
-unfoldable pub runMemory : Blitter → List ℕ → ℕ → List ℕ
-runMemory b mem budget = kept (runAnswer b mem budget) mem (runFor budget (begun b mem) .mem)
+unfoldable pub engineMemory : Blitter → List ℕ → ℕ → List ℕ
+engineMemory b mem budget = kept (engineAnswer b mem budget) mem (runFor budget (begun b mem) .mem)

@@ -51,15 +51,15 @@ ended b code =
     }
 
 -- "Columns run 0..W·ZX−1 inside rows 0..H·ZY−1": the next column, else the next row, else the end
-unfoldable pub advanced : Blitter → ℕ → Blitter
-advanced b code =
+unfoldable pub movedOn : Blitter → ℕ → Blitter
+movedOn b code =
     cond (ltb (b .col + 1) (columnsOf (b .block)))
     (busyAt b (b .row) (b .col + 1) code)
     (cond (ltb (b .row + 1) (rowsOf (b .block))) (busyAt b (b .row + 1) 0 code) (ended b code))
 
 -- "A byte tick (flags 2) handles one destination byte"
 unfoldable pub byteTick : Blitter → List ℕ → Blitter
-byteTick b mem = advanced b (struckAt (b .block) mem (b .row) (b .col) (b .code) .code)
+byteTick b mem = movedOn b (struckAt (b .block) mem (b .row) (b .col) (b .code) .code)
 
 -- an idle blitter's tick changes nothing
 unfoldable pub tickBlitter : Blitter → List ℕ → Blitter

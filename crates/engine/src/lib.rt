@@ -5,7 +5,7 @@ ghost use lib.ListN.{length};
 ghost use Rattle.vram.specs.Memory.{goodLength};
 ghost use Rattle.blitter.specs.State.{soundBlitter};
 ghost use Rattle.engine.specs.Tick.{loadTick, ended};
-ghost use Rattle.engine.specs.Run.{runFor, running, begun, runTold, runAnswer, runBlitter, runMemory};
+ghost use Rattle.engine.specs.Run.{runFor, progress, begun, runTold, engineAnswer, engineBlitter, engineMemory};
 ghost use Rattle.engine.specs.Engine.{placeAt, tallOf, sourceStep, destStep, aheadRow, aheadCol, afterRow, afterCol, levelBlock, stretchAt, leftAt, Placed, Reach, BurstFrom, BurstTo};
 use blitter::Blitter;
 use block::Block;
@@ -355,7 +355,7 @@ fn burst(blitter: Blitter, mem: &mut [u8], ticks: u32, accesses: u32, budget: u3
 // Ticks until the budget is used or the flags are 0: loads, and bursts over one block each.
 fn run_for(mut blitter: Blitter, mem: &mut [u8], budget: u32) -> Sofar
     requires { ⌜ (goodLength (length (now mem)) ≡ true) × (soundBlitter blitter ≡ true) × (budget ≤ 1000000) ⌝ }
-    ensures run { λ r. ⌜ running (r .blitter) (now (mem .exit)) (r .ticks) (r .accesses) ≡ runFor budget (begun blitter (now (mem .entry))) ⌝ }
+    ensures run { λ r. ⌜ progress (r .blitter) (now (mem .exit)) (r .ticks) (r .accesses) ≡ runFor budget (begun blitter (now (mem .entry))) ⌝ }
 {
     let mut ticks: u32 = 0;
     let mut accesses: u32 = 0;
@@ -389,9 +389,9 @@ fn run_for(mut blitter: Blitter, mem: &mut [u8], budget: u32) -> Sofar
 
 // A run: refused 1, 15 and 2 in that order.
 pub fn run(blitter: Blitter, mem: &mut [u8], budget: u32) -> BlitterRan
-    ensures report { λ r. ⌜ runTold (r .report) ≡ runAnswer blitter (now (mem .entry)) budget ⌝ }
-    ensures blitter { λ r. ⌜ r .blitter ≡ runBlitter blitter (now (mem .entry)) budget ⌝ }
-    ensures memory { λ _. ⌜ now (mem .exit) ≡ runMemory blitter (now (mem .entry)) budget ⌝ }
+    ensures report { λ r. ⌜ runTold (r .report) ≡ engineAnswer blitter (now (mem .entry)) budget ⌝ }
+    ensures blitter { λ r. ⌜ r .blitter ≡ engineBlitter blitter (now (mem .entry)) budget ⌝ }
+    ensures memory { λ _. ⌜ now (mem .exit) ≡ engineMemory blitter (now (mem .entry)) budget ⌝ }
 {
     if !vram::good_length(mem.len()) {
         return BlitterRan {

@@ -1,7 +1,8 @@
 -- The choice by a Bool. Assumes nothing.
-use mathlib.Core.Path.{_≡_, refl}
+use mathlib.Core.Path.{_≡_, refl, ap}
 use mathlib.Core.Bool.{Bool, true, false, cond, _&&_, and-eq-true-iff}
-use Prim.Native.Nat.{_≤_}
+use mathlib.Core.List.{List, [], _∷_}
+use Prim.Native.Nat.{ℕ, _≤_}
 use native.Mathlib.Omega.{arith}
 use mir.Val.{boolByte}
 
@@ -10,13 +11,30 @@ pub by-cond {ℓ} : {A : Type ℓ} (P : A → Type 0) (t : Bool) (x y : A) → (
 by-cond P true x y f g = f refl
 by-cond P false x y f g = g refl
 
--- a row of tests that holds, taken apart from the right
+-- two tests that hold, taken apart
 pub both : (s t : Bool) → s && t ≡ true → (s ≡ true) × (t ≡ true)
 both s t = and-eq-true-iff s t .0
 
 -- and put together
 pub and-both : (s t : Bool) → s ≡ true → t ≡ true → s && t ≡ true
 and-both s t p q = and-eq-true-iff s t .1 (p, q)
+
+-- a row of tests, joined from the left as `a & b & c` is; where it holds, each of them does
+abbrev pub row : Bool → List Bool → Bool
+row b [] = b
+row b (x ∷ l) = row (b && x) l
+
+abbrev pub Each : List Bool → Type 0
+Each [] = Unit
+Each (x ∷ l) = (x ≡ true) × Each l
+
+pub each-test : (b : Bool) (l : List Bool) → row b l ≡ true → (b ≡ true) × Each l
+each-test b [] e = (e, tt)
+each-test b (x ∷ l) e = let r = each-test (b && x) l e in let t = both b x (r .0) in (t .0, (t .1, r .1))
+
+-- a test does not both hold and fail
+pub true-false : {A : Type 0} → true ≡ false → A
+true-false e = absurd (let z : _≡_ {A = ℕ} 1 0 = ap (λ (t : Bool). cond t 1 0) e in omega arith)
 
 -- a Bool as a byte
 pub bool-byte : (t : Bool) → boolByte t ≡ cond t 1 0

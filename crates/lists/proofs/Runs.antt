@@ -12,7 +12,7 @@ use Rattle.laws.proofs.Choice.{both}
 use Rattle.vram.specs.Memory.{goodLength}
 use Rattle.blitter.specs.declared.Blitter.{Blitter}
 use Rattle.engine.specs.Tick.{tickBlitter, tickMemory}
-use Rattle.engine.specs.Run.{Running, runFor, begun}
+use Rattle.engine.specs.Run.{Progress, runFor, begun}
 use Rattle.engine.specs.Machine.{Machine, machine, tock, after}
 use Rattle.engine.proofs.Machine.{after-none, after-suc, after-add, after-idle, run-after, run-add, run-count}
 use Rattle.engine.proofs.Runs.{run-idle}
@@ -89,9 +89,9 @@ runs-ticks (n ∷ ns) s r e =
     (λ i. ran-ticks r (first-small n ns e) i + runs-ticks ns (ran n s) (ran-ready r n) (rest-allowed n ns e) i)
     ∙ ap (λ (x : Machine). first .ticks + runFor (sum ns) (begun (x .blitter) (x .mem)) .ticks)
     (ran-machine r (first-small n ns e) ∙ sym (run-after n (begun (s .board .blitter) (s .mem))))
-    ∙ sym (ap (λ (x : Running). x .ticks) (run-pieces n (sum ns) (s .board .blitter) (s .mem)))
+    ∙ sym (ap (λ (x : Progress). x .ticks) (run-pieces n (sum ns) (s .board .blitter) (s .mem)))
   where
-    first : Running
+    first : Progress
     first = runFor n (begun (s .board .blitter) (s .mem))
 
 -- idle stays idle
@@ -115,7 +115,7 @@ module _ {b : Blitter} {mem last : List ℕ} {ticks : ℕ} (x : Exactly (machine
   count-behind n l =
       let q : n ≡ ticks + (n - ticks) = omega arith in
       ap (λ (k : ℕ). runFor k (begun b mem) .ticks) q
-      ∙ ap (λ (r : Running). r .ticks) (run-add ticks (n - ticks) (begun b mem) ∙ run-idle (n - ticks) (runFor ticks (begun b mem)) there)
+      ∙ ap (λ (r : Progress). r .ticks) (run-add ticks (n - ticks) (begun b mem) ∙ run-idle (n - ticks) (runFor ticks (begun b mem)) there)
       ∙ count-before ticks (omega arith)
     where
       there : runFor ticks (begun b mem) .blitter .flags ≡ 0

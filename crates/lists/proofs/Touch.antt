@@ -15,7 +15,7 @@ use Rattle.block.specs.declared.Block.{Block}
 use Rattle.block.proofs.Byte.{place-length, written-other}
 use Rattle.blitter.specs.declared.Blitter.{Blitter}
 use Rattle.blitter.proofs.Sound.{Sound}
-use Rattle.engine.specs.Tick.{loadTick, ended, advanced, byteTick, tickBlitter, tickMemory}
+use Rattle.engine.specs.Tick.{loadTick, ended, movedOn, byteTick, tickBlitter, tickMemory}
 use Rattle.engine.specs.Machine.{Machine}
 use Rattle.board.proofs.Sound.{run-board-length}
 use Rattle.lists.specs.Bench.{Bench, ran}
@@ -30,7 +30,7 @@ module _ (b : Blitter) (mem : List ℕ) (s : Sound b) where
 
   -- what it holds while busy after the tick: what a load tick read, or what it held before a byte tick
   busy-after : (P : Block → Type 0) → (b .flags ≡ 1 → P (blockAt mem (b .list))) → (b .flags ≡ 2 → P (b .block)) → tickBlitter b mem .flags ≡ 2 → P (tickBlitter b mem .block)
-  unfolding tickBlitter loadTick byteTick advanced ended
+  unfolding tickBlitter loadTick byteTick movedOn ended
   busy-after P load byte =
       by-cond Q (eqb (b .flags) 0) _ _ (λ e f. absurd (omega (arith, eqb-true (b .flags) 0 e, f)))
       (λ p. by-cond Q (eqb (b .flags) 1) _ _ (λ e _. load (eqb-true (b .flags) 1 e))

@@ -12,7 +12,7 @@ use Rattle.item.specs.declared.Read.the-variants.{Is, Bad}
 use Rattle.item.proofs.Ranges.{some-line}
 use Rattle.item.proofs.Taken.{taken}
 use Rattle.plan.specs.Plan.{Parsed, good, bad, with, rest}
-use Rattle.plan.specs.Xdl.{sizeOf, bytesOf}
+use Rattle.plan.specs.Xdl.{recordSize, bytesOf}
 use Rattle.plan.specs.Compile.{checkedOf}
 use Rattle.plan.specs.declared.Compiled.{Compiled}
 use Rattle.plan.specs.declared.Compiled.the-variants.{Done, Refused}
@@ -28,7 +28,7 @@ summed-zero : (p : Parsed) → summed 0 p ≡ checkedOf p
 summed-zero (good l) = ap Done (zero-add (length (bytesOf l)))
 summed-zero (bad why n) = refl
 
-summed-with : (w : ℕ) (it : Item) (p : Parsed) → summed w (with it p) ≡ summed (w + sizeOf it) p
+summed-with : (w : ℕ) (it : Item) (p : Parsed) → summed w (with it p) ≡ summed (w + recordSize it) p
 summed-with w it (good l) = ap Done (simp (length-append, length-record) (omega arith))
 summed-with w it (bad why n) = refl
 
@@ -47,7 +47,7 @@ check-start s =
 module _ (s : List ℕ) (at n total bytes : ℕ) (w : Checking s at n total bytes) where
   -- an item is counted: its size and its lines as the code has them
   pub check-turn :
-      (it : Item) (next k t : ℕ) → at < length s → itemAt s at n total ≡ Is it next → k ≡ sizeOf it → t ≡ linesOf it
+      (it : Item) (next k t : ℕ) → at < length s → itemAt s at n total ≡ Is it next → k ≡ recordSize it → t ≡ linesOf it
       → Checking s next (n + 1) (total + t) (bytes + k)
   check-turn it next k t lt e ek et =
       let i = taken s at n total it next e in

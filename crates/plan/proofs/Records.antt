@@ -14,18 +14,18 @@ use Rattle.item.specs.declared.Item.{Item}
 use Rattle.item.specs.declared.Item.the-variants.{Full as full, Running as running}
 use Rattle.item.proofs.Ranges.{full-fits, running-fits}
 use Rattle.plan.specs.Rules.{Bytes}
-use Rattle.plan.specs.Xdl.{overlayBit, mapBit, resolutionBit, endBit, fullRecord, runningRecord, recordOf, sizeOf}
+use Rattle.plan.specs.Xdl.{overlayBit, mapBit, resolutionBit, endBit, fullRecord, runningRecord, recordBytes, recordSize}
 
-pub length-record : (it : Item) (last : Bool) → length (recordOf it last) ≡ sizeOf it
+pub length-record : (it : Item) (last : Bool) → length (recordBytes it last) ≡ recordSize it
 unfolding fullRecord runningRecord
 length-record (full b) last = refl
 length-record (running b) last = refl
 
-pub size-le : (it : Item) → sizeOf it ≤ 22
+pub size-le : (it : Item) → recordSize it ≤ 22
 size-le (full b) = omega arith
 size-le (running b) = omega arith
 
-pub size-some : (it : Item) → 1 ≤ sizeOf it
+pub size-some : (it : Item) → 1 ≤ recordSize it
 size-some (full b) = omega arith
 size-some (running b) = omega arith
 
@@ -72,7 +72,7 @@ low : (x : ℕ) → x % 256 < 256
 low x = omega arith
 
 -- the record of a sound item is bytes
-pub bytes-record : (it : Item) (last : Bool) → soundItem it ≡ true → Open it → Bytes (recordOf it last)
+pub bytes-record : (it : Item) (last : Bool) → soundItem it ≡ true → Open it → Bytes (recordBytes it last)
 unfolding fullRecord runningRecord
 bytes-record (full b) last s o =
     let f = full-fits b s in

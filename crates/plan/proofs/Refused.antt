@@ -18,7 +18,7 @@ use Rattle.item.specs.declared.Read.the-variants.{Is, Bad}
 use Rattle.item.proofs.Ranges.{some-line}
 use Rattle.item.proofs.Taken.{taken}
 use Rattle.plan.specs.Plan.{Parsed, good, bad, with, parseFrom, rest, parse}
-use Rattle.plan.specs.Xdl.{isEmpty, recordOf, bytesOf}
+use Rattle.plan.specs.Xdl.{isLast, recordBytes, bytesOf}
 use Rattle.plan.specs.Compile.{compileTold, checkedOf, fitting, compileAnswer}
 use Rattle.plan.proofs.Records.{length-record, size-some}
 use Rattle.plan.proofs.Valid.{starts-full}
@@ -73,7 +73,7 @@ module _ (s : List ℕ) (why : Refusal) (k : ℕ) where
 pub some-byte : (s : List ℕ) (l : List Item) → parse s ≡ good l → 1 ≤ length (bytesOf l)
 some-byte s [] e = absurd (starts-full s [] e)
 some-byte s (it ∷ l) e =
-    omega (arith, length-append (recordOf it (isEmpty l)) (bytesOf l), length-record it (isEmpty l), size-some it)
+    omega (arith, length-append (recordBytes it (isLast l)) (bytesOf l), length-record it (isLast l), size-some it)
 
 -- what compiling tells, by what the plan is
 abbrev Compiles : Parsed → ℕ → Told ℕ

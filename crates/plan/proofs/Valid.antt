@@ -16,7 +16,7 @@ use Rattle.item.proofs.Ranges.{some-line}
 use Rattle.item.proofs.Taken.{taken}
 use Rattle.plan.specs.Plan.{Parsed, good, bad, rest, parse, itemsOf}
 use Rattle.plan.specs.Rules.{Bytes, StartsFull, AllSound, linesIn}
-use Rattle.plan.specs.Xdl.{isEmpty, recordOf, bytesOf, xdlBytes}
+use Rattle.plan.specs.Xdl.{isLast, recordBytes, bytesOf, xdlBytes}
 use Rattle.plan.specs.Compile.{AtMost}
 use Rattle.plan.proofs.Records.{length-record, size-le, bytes-append, Open, bytes-record}
 use Rattle.plan.proofs.Walk.{bad-good, uncons, last-is, parse-none, parse-taken}
@@ -48,7 +48,7 @@ module _ (s : List ℕ) where
       let u = uncons s at n total it l few e in
       let i = taken s at n total it (u .next) (u .item) in
       let o = rw (i .body) at (body-open b (at + 4) (number2 s (at + 2))) in
-      bytes-append (recordOf it (isEmpty l)) (bytesOf l) (bytes-record it (isEmpty l) (i .fits .sound) o)
+      bytes-append (recordBytes it (isLast l)) (bytesOf l) (bytes-record it (isLast l) (i .fits .sound) o)
       (rest-bytes b l (u .next) (n + 1) (total + linesOf it) (omega (arith, i .on)) (u .more))
 
   module _ (l : List Item) (e : parse s ≡ good l) where
@@ -77,7 +77,7 @@ list-le : (l : List Item) → AllSound l → length (bytesOf l) ≤ 22 * linesIn
 list-le [] a = omega arith
 list-le (it ∷ l) a =
     omega
-    (arith, length-append (recordOf it (isEmpty l)) (bytesOf l), length-record it (isEmpty l), size-le it, some-line it (a .0), list-le l (a .1))
+    (arith, length-append (recordBytes it (isLast l)) (bytesOf l), length-record it (isLast l), size-le it, some-line it (a .0), list-le l (a .1))
 
 pub at-most : AtMost
 at-most s l e = omega (arith, list-le l (all-sound s l e), all-lines s l e)

@@ -15,7 +15,7 @@ use Rattle.item.specs.declared.Item.{Item}
 use Rattle.item.specs.declared.Read.{Read}
 use Rattle.item.specs.declared.Read.the-variants.{Is, Bad}
 use Rattle.plan.specs.Plan.{Parsed, good, bad, with, parseFrom, rest, parse, itemsOf}
-use Rattle.plan.specs.Xdl.{isEmpty, bytesOf, xdlBytes}
+use Rattle.plan.specs.Xdl.{isLast, bytesOf, xdlBytes}
 
 pub bad-good : {A : Type 0} (why : Refusal) (n : ℕ) (l : List Item) → bad why n ≡ good l → A
 bad-good why n l e = absurd (let z : _≡_ {A = ℕ} 0 1 = cc in omega arith)
@@ -84,7 +84,7 @@ uncons s at n total it l few e = go (decLt at (length s))
         absurd (let y : _≡_ {A = ℕ} 0 1 = cc in omega arith)
 
 -- no items are left exactly where no bytes are
-pub last-is : (s : List ℕ) (at n total : ℕ) (l : List Item) → n ≤ at → at ≤ length s → rest s at n total ≡ good l → eqb at (length s) ≡ isEmpty l
+pub last-is : (s : List ℕ) (at n total : ℕ) (l : List Item) → n ≤ at → at ≤ length s → rest s at n total ≡ good l → eqb at (length s) ≡ isLast l
 last-is s at n total (it ∷ l) few h e = ne-eqb at (length s) (λ end.
     absurd
     (let z : good (it ∷ l) ≡ good [] = sym e ∙ rest-end s at n total (omega arith) in

@@ -16,7 +16,7 @@ use Rattle.item.specs.declared.Read.{Read}
 use Rattle.item.specs.declared.Read.the-variants.{Is, Bad}
 use Rattle.item.proofs.Taken.{Taken, taken, taken-again}
 use Rattle.plan.specs.Plan.{Parsed, good, bad, with, rest, parse, itemsOf}
-use Rattle.plan.specs.Xdl.{recordOf, sizeOf, isEmpty, bytesOf, xdlBytes}
+use Rattle.plan.specs.Xdl.{recordBytes, recordSize, isLast, bytesOf, xdlBytes}
 use Rattle.plan.proofs.Walk.{bad-good, rest-end, rest-bad, rest-item, TailGood, tail-good, last-is, parse-taken, xdl-rest}
 use Rattle.plan.proofs.Records.{length-record}
 
@@ -84,30 +84,30 @@ module _ (s first out : List ℕ) (at to : ℕ) (w : Writing s first out at to) 
     step = tail-good it later (itemsOf (rest s at n total)) (sym (rest-item s at n total lt (w .numbered) it next read) ∙ w .well)
 
     -- the record comes next, with END where the plan's bytes end
-    bytes : bytesOf (itemsOf (rest s at n total)) ≡ recordOf it (eqb next (length s)) ++ bytesOf (itemsOf later)
+    bytes : bytesOf (itemsOf (rest s at n total)) ≡ recordBytes it (eqb next (length s)) ++ bytesOf (itemsOf later)
     bytes =
         let i = write-taken in
         ap bytesOf (step .items)
-        ∙ ap (λ (b : Bool). recordOf it b ++ bytesOf (itemsOf later))
+        ∙ ap (λ (b : Bool). recordBytes it b ++ bytesOf (itemsOf later))
         (sym (last-is s next (n + 1) (total + linesOf it) (itemsOf later) (omega (arith, w .numbered)) (i .within) (step .tail)))
 
-    pub write-fits : to + sizeOf it + length (bytesOf (itemsOf later)) ≤ length out
+    pub write-fits : to + recordSize it + length (bytesOf (itemsOf later)) ≤ length out
     write-fits =
         omega
-        (arith, w .room, ap length bytes, length-append (recordOf it (eqb next (length s))) (bytesOf (itemsOf later)), length-record it (eqb next (length s)))
+        (arith, w .room, ap length bytes, length-append (recordBytes it (eqb next (length s))) (bytesOf (itemsOf later)), length-record it (eqb next (length s)))
 
     -- what the record writer asks of the rest that it is lent
-    pub write-may : (sizeOf it ≤ length (take (length out - to) (drop to out))) × (soundItem it ≡ true)
+    pub write-may : (recordSize it ≤ length (take (length out - to) (drop to out))) × (soundItem it ≡ true)
     write-may = (rw tail-lent (simp length-drop (omega (arith, write-fits))), write-taken .fits .sound)
 
     -- a record is written: its size as the code has it
     pub write-turn :
-        (k : ℕ) (ys : List ℕ) → k ≡ sizeOf it
-        → ys ≡ recordOf it (eqb next (length s)) ++ drop (sizeOf it) (take (length out - to) (drop to out))
+        (k : ℕ) (ys : List ℕ) → k ≡ recordSize it
+        → ys ≡ recordBytes it (eqb next (length s)) ++ drop (recordSize it) (take (length out - to) (drop to out))
         → Writing s first (putMid to (length out - to) out ys) next (to + k)
     write-turn k ys ek ey =
         let i = write-taken in
-        let f = filled first out (recordOf it (eqb next (length s))) ys to (sizeOf it) (length-record it _) (omega (arith, write-fits)) (w .kept) ey in
+        let f = filled first out (recordBytes it (eqb next (length s))) ys to (recordSize it) (length-record it _) (omega (arith, write-fits)) (w .kept) ey in
         rw ek
         (record {
           n = n + 1;
@@ -115,10 +115,10 @@ module _ (s first out : List ℕ) (at to : ℕ) (w : Writing s first out at to) 
           numbered = omega (arith, w .numbered, i .on);
           long = f .long ∙ w .long;
           well = step .tail;
-          room = subst (λ (k : ℕ). to + sizeOf it + length (bytesOf (itemsOf later)) ≤ k) (sym (f .long)) write-fits;
+          room = subst (λ (k : ℕ). to + recordSize it + length (bytesOf (itemsOf later)) ≤ k) (sym (f .long)) write-fits;
           sofar =
               ap (λ (z : List ℕ). z ++ bytesOf (itemsOf later)) (f .front)
-              ∙ (append-assoc (take to out) (recordOf it (eqb next (length s))) (bytesOf (itemsOf later))
+              ∙ (append-assoc (take to out) (recordBytes it (eqb next (length s))) (bytesOf (itemsOf later))
               ∙ (ap (λ (z : List ℕ). take to out ++ z) (sym bytes) ∙ w .sofar));
           kept = f .kept;
         })

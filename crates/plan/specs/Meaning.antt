@@ -15,8 +15,8 @@ use Rattle.item.specs.declared.Item.the-variants.{Full as full, Running as runn
 use Rattle.plan.specs.Plan.{parse, itemsOf}
 
 -- "palettes 0..15 (overlay + 4·playfield)"
-abbrev pub lookOf : ℕ → ℕ → ℕ → Look
-lookOf width palettes priority = record { width = width; palette = palettes % 4; playfield = palettes / 4; priority = priority }
+abbrev pub itemLook : ℕ → ℕ → ℕ → Look
+itemLook width palettes priority = record { width = width; palette = palettes % 4; playfield = palettes / 4; priority = priority }
 
 -- the first line of a full band
 unfoldable pub fullSettings : Full → Settings
@@ -41,7 +41,7 @@ fullSettings b =
         height = b .fieldheight;
         counter = 0;
       };
-      look = lookOf (b .width) (b .palettes) (b .priority);
+      look = itemLook (b .width) (b .palettes) (b .priority);
     }
 
 -- a running-on item changes "hscroll, vscroll, font, width, palettes, priority. All else runs on from above."
@@ -58,7 +58,7 @@ runningSettings b s =
         counter = s .overlay .counter;
       };
       map = s .map;
-      look = lookOf (b .width) (b .palettes) (b .priority);
+      look = itemLook (b .width) (b .palettes) (b .priority);
     }
 
 -- the latest full band, with what ran on since: its settings as of its first line, and how many lines below that line we are

@@ -22,16 +22,16 @@ with it (good l) = good (it ∷ l)
 with it (bad why n) = bad why n
 
 -- what stands at a place, item n, leads to, where `on` reads on
-abbrev pub after : Read → ℕ → (Item → ℕ → Parsed) → Parsed
-after (Is it next) n on = with it (on it next)
-after (Bad why) n on = bad why n
+abbrev pub withRest : Read → ℕ → (Item → ℕ → Parsed) → Parsed
+withRest (Is it next) n on = with it (on it next)
+withRest (Bad why) n on = bad why n
 
 -- "item by item", from a place on. The first number only makes the definition end: an item has more than one byte
 unfoldable pub parseFrom : ℕ → List ℕ → ℕ → ℕ → ℕ → Parsed
 parseFrom zero s at n total = good []
 parseFrom (suc f) s at n total =
     cond (ltb at (length s))
-    (after (itemAt s at n total) n (λ it next. parseFrom f s next (n + 1) (total + linesOf it)))
+    (withRest (itemAt s at n total) n (λ it next. parseFrom f s next (n + 1) (total + linesOf it)))
     (good [])
 
 -- the items from a place on: n is the next item's number, total the lines before it

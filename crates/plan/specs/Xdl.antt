@@ -74,22 +74,22 @@ runningRecord b last =
     ∷ []
 
 -- the record of either kind, and its size
-abbrev pub recordOf : Item → Bool → List ℕ
-recordOf (full b) last = fullRecord b last
-recordOf (running b) last = runningRecord b last
+abbrev pub recordBytes : Item → Bool → List ℕ
+recordBytes (full b) last = fullRecord b last
+recordBytes (running b) last = runningRecord b last
 
-abbrev pub sizeOf : Item → ℕ
-sizeOf (full b) = 22
-sizeOf (running b) = 8
+abbrev pub recordSize : Item → ℕ
+recordSize (full b) = 22
+recordSize (running b) = 8
 
 -- "Each record is written .. behind the one before", the last with END
-abbrev pub isEmpty : List Item → Bool
-isEmpty [] = true
-isEmpty (it ∷ l) = false
+abbrev pub isLast : List Item → Bool
+isLast [] = true
+isLast (it ∷ l) = false
 
 abbrev pub bytesOf : List Item → List ℕ
 bytesOf [] = []
-bytesOf (it ∷ l) = recordOf it (isEmpty l) ++ bytesOf l
+bytesOf (it ∷ l) = recordBytes it (isLast l) ++ bytesOf l
 
 -- the list of a plan; none where it is refused
 unfoldable pub xdlBytes : List ℕ → List ℕ

@@ -5,7 +5,7 @@ ghost use Prim.Native.Nat.{_≤_};
 ghost use lib.ListN.{length, drop};
 ghost use Rattle.item.specs.Item.{soundFull, soundRunning, soundItem};
 ghost use Rattle.plan.specs.Plan.{good, parse, itemsOf};
-ghost use Rattle.plan.specs.Xdl.{overlayBit, mapBit, resolutionBit, endBit, fullRecord, runningRecord, sizeOf, recordOf, xdlBytes};
+ghost use Rattle.plan.specs.Xdl.{overlayBit, mapBit, resolutionBit, endBit, fullRecord, runningRecord, recordSize, recordBytes, xdlBytes};
 ghost use Rattle.plan.specs.Compile.{checkedOf, compileTold, compileAnswer, compileOutput};
 use item::Full;
 use item::Item;
@@ -105,8 +105,8 @@ fn write_running(out: &mut [u8], b: Running, last: bool) -> usize
 
 // The item's record at the start of what is lent; how many bytes it has.
 fn write_record(out: &mut [u8], it: Item, last: bool) -> usize
-    requires { ⌜ (sizeOf it ≤ length (now out)) × (soundItem it ≡ true) ⌝ }
-    ensures { λ r. ⌜ (r ≡ sizeOf it) × (now (out .exit) ≡ recordOf it last ++ drop (sizeOf it) (now (out .entry))) ⌝ }
+    requires { ⌜ (recordSize it ≤ length (now out)) × (soundItem it ≡ true) ⌝ }
+    ensures { λ r. ⌜ (r ≡ recordSize it) × (now (out .exit) ≡ recordBytes it last ++ drop (recordSize it) (now (out .entry))) ⌝ }
 {
     match it {
         Item::Full(b) => write_full(out, b, last),
@@ -115,7 +115,7 @@ fn write_record(out: &mut [u8], it: Item, last: bool) -> usize
 }
 
 fn size_of(it: Item) -> usize
-    ensures { λ r. ⌜ r ≡ sizeOf it ⌝ }
+    ensures { λ r. ⌜ r ≡ recordSize it ⌝ }
 {
     match it {
         Item::Full(_) => 22,

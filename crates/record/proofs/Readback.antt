@@ -10,7 +10,7 @@ use Rattle.settings.specs.declared.Map.{Map}
 use Rattle.settings.specs.declared.Look.{Look}
 use Rattle.vram.specs.Memory.{byteAt}
 use Rattle.record.specs.Parts.{inMode, stepping, scrolled, inFont, switched, mapStepping, fielded}
-use Rattle.record.specs.Record.{modeOf, mapOf, addressAt, stepAt, fieldWidth, lookAt, controlled, repeatGroup, addressGroup, scrollGroup, fontGroup, mapGroup, fieldGroup, lookGroup, restarted, recordBy, recordOf}
+use Rattle.record.specs.Record.{overlayMode, mapSwitch, addressAt, stepAt, fieldWidth, lookAt, controlled, repeatGroup, addressGroup, scrollGroup, fontGroup, mapGroup, fieldGroup, lookGroup, restarted, recordBy, recordOf}
 use Rattle.record.specs.declared.Reader.{Reader}
 
 -- a record that begins at p, while it is read: its parts, and how many of its bytes are read
@@ -92,7 +92,7 @@ module _ (mem : List ℕ) (r : Reader) (c d : ℕ) where
 
   -- the reader behind RPTL
   abbrev begun : ℕ → Reader
-  begun t = put mem at (bit d 7) 3 t (inMode (modeOf c d (r .settings .overlay .mode)) (r .settings .overlay)) (switched (mapOf c (r .settings .map .on)) (r .settings .map)) (r .settings .look)
+  begun t = put mem at (bit d 7) 3 t (inMode (overlayMode c d (r .settings .overlay .mode)) (r .settings .overlay)) (switched (mapSwitch c (r .settings .map .on)) (r .settings .map)) (r .settings .look)
 
   repeated : bit c 5 ≡ true → repeatGroup mem c (controlled c d r) ≡ begun (byteAt mem at 2)
   unfolding controlled
@@ -113,7 +113,7 @@ module _ (mem : List ℕ) (r : Reader) (c d : ℕ) where
       ≡ record {
         settings = record {
           overlay = record {
-            mode = modeOf c d (r .settings .overlay .mode);
+            mode = overlayMode c d (r .settings .overlay .mode);
             address = addressAt mem at 3;
             step = stepAt mem at 6;
             hscroll = byteAt mem at 8 % 8;
@@ -122,7 +122,7 @@ module _ (mem : List ℕ) (r : Reader) (c d : ℕ) where
             counter = 0;
           };
           map = record {
-            on = mapOf c (r .settings .map .on);
+            on = mapSwitch c (r .settings .map .on);
             address = addressAt mem at 11;
             step = stepAt mem at 14;
             hscroll = byteAt mem at 16 % 32;

@@ -14,11 +14,11 @@ use Rattle.laws.specs.Bit.{bit}
 use Rattle.settings.proofs.Sound.{OverlayFits, MapFits, LookFits, SettingsFit, overlay-at-fits, map-at-fits}
 use Rattle.settings.specs.Settings.{mapAt}
 use Rattle.vram.specs.Memory.{byteAt, place}
-use Rattle.record.specs.Record.{pixelMode, modeOf, addressAt, stepAt, fieldWidth, displayWidth, fieldRestarts, textRestarts, controlled, repeatGroup, addressGroup, scrollGroup, fontGroup, mapGroup, fieldGroup, lookGroup, restarted, fetchedBy, recordOf}
+use Rattle.record.specs.Record.{pixelMode, overlayMode, addressAt, stepAt, fieldWidth, displayWidth, fieldRestarts, textRestarts, controlled, repeatGroup, addressGroup, scrollGroup, fontGroup, mapGroup, fieldGroup, lookGroup, restarted, fetchedBy, recordOf}
 use Rattle.record.specs.declared.Reader.{Reader}
 
 -- the numbers that a record's bytes give
-mode-fits : (c d mode : ℕ) → mode ≤ 4 → modeOf c d mode ≤ 4
+mode-fits : (c d mode : ℕ) → mode ≤ 4 → overlayMode c d mode ≤ 4
 mode-fits c d mode h =
     by-cond (λ (n : ℕ). n ≤ 4) (eqb (c % 8) 0) mode _ (λ e. h) (λ e.
     by-cond (λ (n : ℕ). n ≤ 4) (eqb (c % 8) 1) 1 _ (λ e. omega arith) (λ e.

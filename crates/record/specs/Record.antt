@@ -15,12 +15,12 @@ abbrev pub pixelMode : ℕ → ℕ
 pixelMode d = cond (eqb (d / 16 % 4) 0) 2 (cond (eqb (d / 16 % 4) 1) 3 (cond (eqb (d / 16 % 4) 2) 4 0))
 
 -- "Of TMON, GMON, OVOFF: none keeps the mode; two or three give off; OVOFF gives off; TMON gives text": bits 0, 1 and 2
-abbrev pub modeOf : ℕ → ℕ → ℕ → ℕ
-modeOf c d mode = cond (eqb (c % 8) 0) mode (cond (eqb (c % 8) 1) 1 (cond (eqb (c % 8) 2) (pixelMode d) 0))
+abbrev pub overlayMode : ℕ → ℕ → ℕ → ℕ
+overlayMode c d mode = cond (eqb (c % 8) 0) mode (cond (eqb (c % 8) 1) 1 (cond (eqb (c % 8) 2) (pixelMode d) 0))
 
 -- "MAPON alone is on, MAPOFF alone off, neither keeps; both together are off (ours)": bits 3 and 4
-abbrev pub mapOf : ℕ → Bool → Bool
-mapOf c on = cond (eqb (c / 8 % 4) 0) on (eqb (c / 8 % 4) 1)
+abbrev pub mapSwitch : ℕ → Bool → Bool
+mapSwitch c on = cond (eqb (c / 8 % 4) 0) on (eqb (c / 8 % 4) 1)
 
 -- "addresses 19, steps 12": three bytes, and two, from byte k on
 abbrev pub addressAt : List ℕ → ℕ → ℕ → ℕ
@@ -49,8 +49,8 @@ controlled c d r =
     let s = r .settings in
     record {
       settings = record {
-        overlay = inMode (modeOf c d (s .overlay .mode)) (s .overlay);
-        map = switched (mapOf c (s .map .on)) (s .map);
+        overlay = inMode (overlayMode c d (s .overlay .mode)) (s .overlay);
+        map = switched (mapSwitch c (s .map .on)) (s .map);
         look = s .look;
       };
       position = (r .position + 2) % 524288;

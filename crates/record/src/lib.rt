@@ -2,8 +2,8 @@ ghost use mathlib.Core.Path.{_≡_};
 ghost use mathlib.Core.Bool.{cond};
 ghost use Rattle.record.specs.Record.{
   pixelMode,
-  modeOf,
-  mapOf,
+  overlayMode,
+  mapSwitch,
   addressAt,
   stepAt,
   fieldWidth,
@@ -49,7 +49,7 @@ fn pixel_mode(d: u8) -> u8
 
 // TMON, GMON, OVOFF: one of them alone, or off.
 fn mode_of(c: u8, d: u8, mode: u8) -> u8
-    ensures { λ r. ⌜ r ≡ modeOf c d mode ⌝ }
+    ensures { λ r. ⌜ r ≡ overlayMode c d mode ⌝ }
 {
     let k = c % 8;
     if k == 0 {
@@ -66,7 +66,7 @@ fn mode_of(c: u8, d: u8, mode: u8) -> u8
 
 // MAPON, MAPOFF.
 fn map_of(c: u8, on: bool) -> bool
-    ensures { λ r. ⌜ r ≡ mapOf c on ⌝ }
+    ensures { λ r. ⌜ r ≡ mapSwitch c on ⌝ }
 {
     let k = c / 8 % 4;
     if k == 0 { on } else { k == 1 }

@@ -23,7 +23,7 @@ use Rattle.plan.specs.Plan.{good, parseFrom, rest, parse, itemsOf}
 use Rattle.plan.specs.Rules.{Bytes}
 use Rattle.plan.specs.Xdl.{fullRecord, runningRecord, bytesOf}
 use Rattle.plan.specs.Meaning.{fullSettings, runningSettings, meaningFrom, planMeans}
-use Rattle.shows.specs.Shows.{started, lineOf, Desk, Valid, listOf}
+use Rattle.shows.specs.Shows.{frameStarted, lineOf, Desk, Valid, listOf}
 use Rattle.shows.proofs.Theorem.{demand-3}
 
 -- bytes that are written out, and zeros
@@ -47,7 +47,7 @@ new-sound = refl
 
 -- line k of a plan whose list has n bytes
 abbrev line : List ℕ → ℕ → ℕ → Told Settings
-line plan n k = lineOf (started 524286 1 newBoard) (installMemory blank (listOf plan (replicate n 0) (itemsOf (parse plan))) 524286) k
+line plan n k = lineOf (frameStarted 524286 1 newBoard) (installMemory blank (listOf plan (replicate n 0) (itemsOf (parse plan))) 524286) k
 
 desk : Desk blank 524286 1 newBoard
 desk =

@@ -16,7 +16,7 @@ use Rattle.board.specs.Board.{soundBoard, blitterWritten, writeBoard}
 use Rattle.board.specs.declared.Board.{Board}
 use Rattle.board.proofs.Answer.{write-done}
 use Rattle.frame.specs.Frame.{startOf, startAnswer}
-use Rattle.shows.specs.Shows.{pointed, started}
+use Rattle.shows.specs.Shows.{pointed, frameStarted}
 
 -- the same board with another list register, and with another VIDEO_CONTROL
 abbrev listing : ℕ → Board → Board
@@ -119,7 +119,7 @@ switched-on : (v : ℕ) → v % 2 ≡ 1 → bit (v % 16) 0 ≡ true
 switched-on v e = eq-eqb (v % 16 / 1 % 2) 1 (omega arith)
 
 -- a value with bit 0 set starts the frame that 1 starts
-pub started-is : (b : Board) (a v : ℕ) → soundBoard b ≡ true → a ≤ 524287 → v % 2 ≡ 1 → started a v b ≡ done (startOf a 1)
+pub started-is : (b : Board) (a v : ℕ) → soundBoard b ≡ true → a ≤ 524287 → v % 2 ≡ 1 → frameStarted a v b ≡ done (startOf a 1)
 started-is b a v s h on =
     let c = listing a b in
     let t : soundBoard c ≡ true = sound-listing b a s (omega arith) in

@@ -13,8 +13,8 @@ use Rattle.item.specs.declared.Full.{Full}
 use Rattle.item.specs.declared.Running.{Running}
 use Rattle.item.proofs.Ranges.{full-fits, running-fits}
 use Rattle.plan.specs.Xdl.{overlayBit, mapBit, resolutionBit, endBit, fullRecord, runningRecord}
-use Rattle.plan.specs.Meaning.{lookOf, fullSettings, runningSettings}
-use Rattle.record.specs.Record.{modeOf, mapOf, fieldWidth, displayWidth, lookAt, recordOf}
+use Rattle.plan.specs.Meaning.{itemLook, fullSettings, runningSettings}
+use Rattle.record.specs.Record.{overlayMode, mapSwitch, fieldWidth, displayWidth, lookAt, recordOf}
 use Rattle.record.specs.declared.Reader.{Reader}
 use Rattle.record.proofs.Readback as readback
 use Rattle.record.proofs.Readback.{by-control, full-record, running-record}
@@ -28,7 +28,7 @@ record ModeBits (m : ℕ) : Type 0 where
   low : overlayBit m ≤ 4
   high : resolutionBit m ≤ 32
   apart : resolutionBit m % 16 ≡ 0
-  back : (old : ℕ) → modeOf (overlayBit m) (resolutionBit m) old ≡ m
+  back : (old : ℕ) → overlayMode (overlayBit m) (resolutionBit m) old ≡ m
 
 mode-bits : (m : ℕ) → m ≤ 4 → ModeBits m
 mode-bits zero h = record { low = omega arith; high = omega arith; apart = refl; back = λ old. refl }
@@ -41,7 +41,7 @@ mode-bits (suc (suc (suc (suc (suc m))))) h = absurd (omega arith)
 record MapBit (p : ℕ) : Type 0 where
   high : mapBit p ≤ 16
   apart : mapBit p % 8 ≡ 0
-  back : (old : Bool) → mapOf (mapBit p) old ≡ eqb p 1
+  back : (old : Bool) → mapSwitch (mapBit p) old ≡ eqb p 1
 
 map-bit : (p : ℕ) → p ≤ 1 → MapBit p
 map-bit zero h = record { high = omega arith; apart = refl; back = λ old. refl }
@@ -78,13 +78,13 @@ module _ (m p : ℕ) (last : Bool) (o : ModeBits m) (q : MapBit p) (e : EndBit l
         ovatt = eq-eqb (d / 8 % 2) 1 (omega arith);
       }
 
-  full-mode : (old : ℕ) → modeOf c d old ≡ m
+  full-mode : (old : ℕ) → overlayMode c d old ≡ m
   full-mode old =
       let one : c % 8 ≡ overlayBit m % 8 = omega arith in
       let two : d / 16 % 4 ≡ resolutionBit m / 16 % 4 = omega arith in
       simp (one, two) (o .back old)
 
-  full-map : (old : Bool) → mapOf c old ≡ eqb p 1
+  full-map : (old : Bool) → mapSwitch c old ≡ eqb p 1
   full-map old =
       let one : c / 8 % 4 ≡ mapBit p / 8 % 4 = omega arith in
       simp one (q .back old)
@@ -136,7 +136,7 @@ module _ (w p a : ℕ) (e : a ≡ w + 16 * p) (hw : w ≤ 2) (hp : p ≤ 15) whe
   playfield-back = omega arith
 
 -- OVATT, from byte k on
-look-back : (mem : List ℕ) (at k w p v : ℕ) → byteAt mem at k ≡ w + 16 * p → byteAt mem at (k + 1) ≡ v → w ≤ 2 → p ≤ 15 → lookAt mem at k ≡ lookOf w p v
+look-back : (mem : List ℕ) (at k w p v : ℕ) → byteAt mem at k ≡ w + 16 * p → byteAt mem at (k + 1) ≡ v → w ≤ 2 → p ≤ 15 → lookAt mem at k ≡ itemLook w p v
 look-back mem at k w p v e f hw hp =
     let a = byteAt mem at k in
     λ i. record { width = display-back w p a e hw hp i; palette = palette-back w p a e hw hp i; playfield = playfield-back w p a e hw hp i; priority = f i }

@@ -20,7 +20,7 @@ use Rattle.item.specs.declared.Running.{Running}
 use Rattle.item.specs.declared.Item.{Item}
 use Rattle.item.specs.declared.Item.the-variants.{Full as full, Running as running}
 use Rattle.item.proofs.Ranges.{full-fits, some-line}
-use Rattle.plan.specs.Xdl.{isEmpty, recordOf, sizeOf, bytesOf}
+use Rattle.plan.specs.Xdl.{isLast, recordBytes, recordSize, bytesOf}
 use Rattle.plan.specs.Meaning.{fullSettings, runningSettings, Latest, enter, lower, settingsAt, meaningFrom, meaning}
 use Rattle.plan.proofs.Records.{length-record}
 use Rattle.plan.specs.Rules.{StartsFull, AllSound}
@@ -106,8 +106,8 @@ module _ (mem : List ℕ) where
 
   fetch-item :
       (it : Item) (more : List Item) (l : Latest) (set : Settings) (p : ℕ) (last : Bool) → soundItem it ≡ true → Ready (it ∷ more) l set
-      → Holds mem p (recordOf it last)
-      → fetching mem (at-item set p false) ≡ held (enter it l) (linesOf it - 1) ((p + sizeOf it) % 524288) 0 last
+      → Holds mem p (recordBytes it last)
+      → fetching mem (at-item set p false) ≡ held (enter it l) (linesOf it - 1) ((p + recordSize it) % 524288) 0 last
   unfolding fetching
   fetch-item (full b) more l set p last s r h =
       read-full mem (at-item set p false) b last s h
@@ -123,10 +123,10 @@ module _ (mem : List ℕ) where
 
   as-held :
       (it : Item) (more : List Item) (l : Latest) (set : Settings) (p : ℕ) (last : Bool) → soundItem it ≡ true → Ready (it ∷ more) l set → Tall (enter it l)
-      → Holds mem p (recordOf it last)
-      → (k : ℕ) → seen mem (at-item set p false) k ≡ seen mem (held (enter it l) (linesOf it) ((p + sizeOf it) % 524288) 0 last) k
+      → Holds mem p (recordBytes it last)
+      → (k : ℕ) → seen mem (at-item set p false) k ≡ seen mem (held (enter it l) (linesOf it) ((p + recordSize it) % 524288) 0 last) k
   as-held it more l set p last s r tall h =
-      let p′ = (p + sizeOf it) % 524288 in
+      let p′ = (p + recordSize it) % 524288 in
       let one : linesOf it ≡ suc (linesOf it - 1) = omega (arith, some-line it s) in
       same-fetch mem _ _
       (fetch-item it more l set p last s r h
@@ -144,7 +144,7 @@ module _ (mem : List ℕ) where
 
   walk :
       (items : List Item) (l : Latest) (set : Settings) (p : ℕ) → AllSound items → Ready items l set → Holds mem p (bytesOf items)
-      → (k : ℕ) → seen mem (at-item set p (isEmpty items)) k ≡ meaningFrom items l k
+      → (k : ℕ) → seen mem (at-item set p (isLast items)) k ≡ meaningFrom items l k
   unfolding meaningFrom
   walk [] l set p s r h k = after-end set p k ∙ ap off r
   walk (it ∷ more) l set p s r h k =
@@ -154,22 +154,22 @@ module _ (mem : List ℕ) where
       e = enter it l
 
       p′ : ℕ
-      p′ = (p + sizeOf it) % 524288
+      p′ = (p + recordSize it) % 524288
 
       last : Bool
-      last = isEmpty more
+      last = isLast more
 
       tall : Tall (enter it l)
       tall = enter-tall it l (s .0) (⊎-elim (λ f. inl f) (λ t. inr (t .1)) r)
 
-      front : Holds mem p (recordOf it (isEmpty more))
-      front = holds-front mem p (recordOf it (isEmpty more)) (bytesOf more) h
+      front : Holds mem p (recordBytes it (isLast more))
+      front = holds-front mem p (recordBytes it (isLast more)) (bytesOf more) h
 
-      back : Holds mem ((p + sizeOf it) % 524288) (bytesOf more)
-      back = holds-back mem p (recordOf it (isEmpty more)) (bytesOf more) h (sizeOf it) (length-record it (isEmpty more))
+      back : Holds mem ((p + recordSize it) % 524288) (bytesOf more)
+      back = holds-back mem p (recordBytes it (isLast more)) (bytesOf more) h (recordSize it) (length-record it (isLast more))
 
       go :
-          Dec (k < linesOf it) → ((j : ℕ) → seen mem (at-item (settingsAt e (0 + linesOf it)) p′ (isEmpty more)) j ≡ meaningFrom more (lower (linesOf it) e) j)
+          Dec (k < linesOf it) → ((j : ℕ) → seen mem (at-item (settingsAt e (0 + linesOf it)) p′ (isLast more)) j ≡ meaningFrom more (lower (linesOf it) e) j)
           → seen mem (at-item set p false) k ≡ cond (ltb k (linesOf it)) (settingsAt e k) (meaningFrom more (lower (linesOf it) e) (k - linesOf it))
       go (yes lt) below =
           simp (lt-ltb k (linesOf it) lt)

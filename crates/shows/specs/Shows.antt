@@ -27,8 +27,8 @@ pointed address b =
     writeBoard (writeBoard (writeBoard b 0x41 (address % 256)) 0x42 (address / 256 % 256)) 0x43 (address / 65536)
 
 -- "switch the list on and start a frame": a value with bit 0 set to VIDEO_CONTROL
-abbrev pub started : ℕ → ℕ → Board → Told Frame
-started address video b = startAnswer (writeBoard (pointed address b) 0x40 video)
+abbrev pub frameStarted : ℕ → ℕ → Board → Told Frame
+frameStarted address video b = startAnswer (writeBoard (pointed address b) 0x40 video)
 
 -- what line k of that frame tells, memory staying unchanged
 abbrev pub lineOf : Told Frame → List ℕ → ℕ → Told Settings
@@ -37,7 +37,7 @@ lineOf (refused number item) mem k = refused number item
 
 -- "each of its 240 lines has exactly the settings the plan means", which are worked out from its items
 abbrev pub EachLine : List ℕ → List Item → ℕ → ℕ → Board → Type 0
-EachLine mem items address video b = (k : ℕ) → k < 240 → lineOf (started address video b) mem k ≡ done (meaning items k)
+EachLine mem items address video b = (k : ℕ) → k < 240 → lineOf (frameStarted address video b) mem k ≡ done (meaning items k)
 
 -- any memory of a board's length, "any address of a desk board", any sound board, any value that switches the list on
 pub record Desk (mem : List ℕ) (address video : ℕ) (b : Board) : Type 0 where

@@ -6,7 +6,7 @@ use contract.Lifetimes.{Lfts}
 use denote.Ref.{now}
 use denote.Triple.Clauses.{AtExit}
 use Rattle.laws.proofs.Once.{OneAnswer, OneExit}
-use Rattle.stretch.specs.Stretch.{Drawing, drawing, drawn}
+use Rattle.stretch.specs.Stretch.{Trace, trace, traceOf}
 use Rattle.stretch.specs.Flat.{firstOf}
 use Rattle.stretch.proofs.draw.Kinds as draw-kinds
 use Rattle.stretch.proofs.draw.Reads as draw
@@ -19,7 +19,7 @@ draw-once : OneAnswer 1 draw-kinds.ps draw-kinds.r draw.Post
 draw-once κs a x y s t p q = let e = p ∙ sym q in λ i. record { code = e i .code; accesses = e i .accesses }
 
 draw-memory-once : OneExit 1 draw-kinds.ps draw-kinds.r draw.Post (λ κs s. now (s .1 .0))
-draw-memory-once κs a x y s t p q = ap (λ (d : Drawing). d .mem) (p ∙ sym q)
+draw-memory-once κs a x y s t p q = ap (λ (d : Trace). d .mem) (p ∙ sym q)
 
 -- the bytes drawn are as many
 module _ (κs : Lfts 1) (a : Dens κs flat-draw-kinds.ps) (x y : resT flat-draw-kinds.r κs .Denot) (s t : AtExit (endedOf 1 flat-draw-kinds.ps flat-draw-kinds.r) κs)
@@ -27,8 +27,8 @@ module _ (κs : Lfts 1) (a : Dens κs flat-draw-kinds.ps) (x y : resT flat-draw-
   as-many : x .count ≡ y .count
   as-many = p .0 ∙ sym (q .0)
 
-  alike : drawing (now (s .1 .0)) (x .code) (x .accesses) ≡ drawing (now (t .1 .0)) (y .code) (y .accesses)
-  alike = p .1 ∙ ap (λ (n : ℕ). drawn (a .0) (firstOf (a .1 .1 .0) n) (now (a .1 .0)) (a .1 .1 .1 .0)) as-many ∙ sym (q .1)
+  alike : trace (now (s .1 .0)) (x .code) (x .accesses) ≡ trace (now (t .1 .0)) (y .code) (y .accesses)
+  alike = p .1 ∙ ap (λ (n : ℕ). traceOf (a .0) (firstOf (a .1 .1 .0) n) (now (a .1 .0)) (a .1 .1 .1 .0)) as-many ∙ sym (q .1)
 
 flat-draw-once : OneAnswer 1 flat-draw-kinds.ps flat-draw-kinds.r flat-draw.Post
 flat-draw-once κs a x y s t p q =
@@ -37,7 +37,7 @@ flat-draw-once κs a x y s t p q =
     λ i. record { count = n i; code = e i .code; accesses = e i .accesses }
 
 flat-draw-memory-once : OneExit 1 flat-draw-kinds.ps flat-draw-kinds.r flat-draw.Post (λ κs s. now (s .1 .0))
-flat-draw-memory-once κs a x y s t p q = ap (λ (d : Drawing). d .mem) (alike κs a x y s t p q)
+flat-draw-memory-once κs a x y s t p q = ap (λ (d : Trace). d .mem) (alike κs a x y s t p q)
 
 level-once : OneAnswer 0 level-kinds.ps level-kinds.r level.Post
 level-once κs a x y s t p q = p ∙ sym q

@@ -16,7 +16,7 @@ use Rattle.mode.proofs.Laws.{code-stays}
 use Rattle.block.specs.Block.{modeOf}
 use Rattle.block.specs.Byte.{readsSource}
 use Rattle.block.specs.declared.Block.{Block}
-use Rattle.stretch.specs.Stretch.{drawing, strokeBy, struck, strokes}
+use Rattle.stretch.specs.Stretch.{trace, strokeBy, struck, strokes}
 use Rattle.stretch.specs.Flat.{Makes}
 use Rattle.stretch.proofs.Strokes.{less, none, all}
 use Rattle.stretch.proofs.Single.{masked, masked-read, copy-is}
@@ -35,7 +35,7 @@ one-more false wrote cost k read = rw (add-zero wrote, add-one k, suc-mul k read
 pub record Passing (b : Block) (count from at : ℕ) (first mem : List ℕ) (made k : ℕ) : Type 0 where
   pub within : k ≤ count
   pub long : length mem ≡ length first
-  pub same : (code : ℕ) → strokes b 1 1 (count - k) (from + k) (at + k) (drawing mem code made) ≡ strokes b 1 1 count from at (drawing first code 0)
+  pub same : (code : ℕ) → strokes b 1 1 (count - k) (from + k) (at + k) (trace mem code made) ≡ strokes b 1 1 count from at (trace first code 0)
 
 module _ {b : Block} {count from at : ℕ} {first : List ℕ} where
   pub pass-start : Passing b count from at first first 0 0
@@ -43,7 +43,7 @@ module _ {b : Block} {count from at : ℕ} {first : List ℕ} where
 
   module _ {mem : List ℕ} {made k : ℕ} (p : Passing b count from at first mem made k) where
     -- one byte more
-    pass-on : k < count → (i v made′ : ℕ) → ((code : ℕ) → struck b (from + k) (at + k) (drawing mem code made) ≡ drawing (set mem i v) code made′)
+    pass-on : k < count → (i v made′ : ℕ) → ((code : ℕ) → struck b (from + k) (at + k) (trace mem code made) ≡ trace (set mem i v) code made′)
         → Passing b count from at first (set mem i v) made′ (k + 1)
     unfolding strokes
     pass-on h i v made′ e =
@@ -53,10 +53,10 @@ module _ {b : Block} {count from at : ℕ} {first : List ℕ} where
           long = length-set mem i v ∙ p .long;
           same =
               λ code.
-              ap (λ (x : ℕ). strokes b 1 1 (count - (k + 1)) x (at + (k + 1)) (drawing (set mem i v) code made′)) (on from)
-              ∙ ap (λ (x : ℕ). strokes b 1 1 (count - (k + 1)) (from + k + 1) x (drawing (set mem i v) code made′)) (on at)
+              ap (λ (x : ℕ). strokes b 1 1 (count - (k + 1)) x (at + (k + 1)) (trace (set mem i v) code made′)) (on from)
+              ∙ ap (λ (x : ℕ). strokes b 1 1 (count - (k + 1)) (from + k + 1) x (trace (set mem i v) code made′)) (on at)
               ∙ ap (strokes b 1 1 (count - (k + 1)) (from + k + 1) (at + k + 1)) (sym (e code))
-              ∙ ap (λ (n : ℕ). strokes b 1 1 n (from + k) (at + k) (drawing mem code made)) (less count k h)
+              ∙ ap (λ (n : ℕ). strokes b 1 1 n (from + k) (at + k) (trace mem code made)) (less count k h)
               ∙ p .same code;
         }
 
@@ -67,8 +67,8 @@ module _ {b : Block} {count from at : ℕ} {first : List ℕ} where
     pub pass-done : count ≤ k → {made′ : ℕ} → made′ ≡ made → Makes b 1 1 count from at first mem made′
     unfolding strokes
     pass-done h e code =
-        ap (drawing mem code) e
-        ∙ ap (λ (n : ℕ). strokes b 1 1 n (from + k) (at + k) (drawing mem code made)) (sym (none count k h))
+        ap (trace mem code) e
+        ∙ ap (λ (n : ℕ). strokes b 1 1 n (from + k) (at + k) (trace mem code made)) (sym (none count k h))
         ∙ p .same code
 
     module _ (g : goodLength (length first) ≡ true) (h : k < count) (from-in : from + count ≤ length first) (at-in : at + count ≤ length first) where
@@ -88,9 +88,9 @@ module _ {b : Block} {count from at : ℕ} {first : List ℕ} where
           pass-on h (at + k) _ _
           (λ code.
           copy-is b mem (from + k) (at + k) code made m z
-          ∙ ap (λ (i : ℕ). drawing (set mem i (masked b mem (from + k))) code (made + 2)) here
-          ∙ ap (λ (i : ℕ). drawing (set mem (at + k) (bitXor (bitAnd (getD mem i 0) (b .andmask)) (b .xormask))) code (made + 2)) there
-          ∙ ap (drawing (set mem (at + k) (bitXor (bitAnd (getD mem (from + k) 0) (b .andmask)) (b .xormask))) code) (omega arith))
+          ∙ ap (λ (i : ℕ). trace (set mem i (masked b mem (from + k))) code (made + 2)) here
+          ∙ ap (λ (i : ℕ). trace (set mem (at + k) (bitXor (bitAnd (getD mem i 0) (b .andmask)) (b .xormask))) code (made + 2)) there
+          ∙ ap (trace (set mem (at + k) (bitXor (bitAnd (getD mem (from + k) 0) (b .andmask)) (b .xormask))) code) (omega arith))
 
       -- a byte of modes 1 to 6, s being its source after both masks
       module _ (mode : ℕ) (m : mode ≡ modeOf b) (under : mode < 7) (z : b .hitmask ≡ 0) where
@@ -103,11 +103,11 @@ module _ {b : Block} {count from at : ℕ} {first : List ℕ} where
         abbrev read : ℕ
         read = cond (readsSource b) 1 0
 
-        byte : (code : ℕ) → struck b (from + k) (at + k) (drawing mem code made) ≡ drawing (set mem (at + k) (cond (writesIn mode s) (valueIn mode s d) d)) code (made + (cond (writesIn mode s) (costIn mode (b .hitmask)) 0 + read))
+        byte : (code : ℕ) → struck b (from + k) (at + k) (trace mem code made) ≡ trace (set mem (at + k) (cond (writesIn mode s) (valueIn mode s d) d)) code (made + (cond (writesIn mode s) (costIn mode (b .hitmask)) 0 + read))
         unfolding struck strokeBy strokeOf accessesIn
         byte code =
             rw (masked-read b mem (from + k) (λ e. omega arith), there, here, sym m, code-stays mode (b .hitmask) s d code z)
-            (ap (λ (l : List ℕ). drawing l code (made + (cond (writesIn mode s) (costIn mode (b .hitmask)) 0 + read))) (write-back (writesIn mode s) mem (at + k) (valueIn mode s d)))
+            (ap (λ (l : List ℕ). trace l code (made + (cond (writesIn mode s) (costIn mode (b .hitmask)) 0 + read))) (write-back (writesIn mode s) mem (at + k) (valueIn mode s d)))
 
         pub pass-mix : (wrote : ℕ) → made ≡ wrote * costIn mode (b .hitmask) + k * read
             → Passing b count from at first (set mem (at + k) (cond (writesIn mode s) (valueIn mode s d) d)) ((wrote + boolByte (writesIn mode s)) * costIn mode (b .hitmask) + (k + 1) * read) (k + 1)
@@ -115,5 +115,5 @@ module _ {b : Block} {count from at : ℕ} {first : List ℕ} where
             pass-on h (at + k) _ _
             (λ code.
             byte code
-            ∙ ap (drawing (set mem (at + k) (cond (writesIn mode s) (valueIn mode s d) d)) code)
+            ∙ ap (trace (set mem (at + k) (cond (writesIn mode s) (valueIn mode s d) d)) code)
             (ap (λ (n : ℕ). n + (cond (writesIn mode s) (costIn mode (b .hitmask)) 0 + read)) e ∙ one-more (writesIn mode s) wrote (costIn mode (b .hitmask)) k read))

@@ -9,7 +9,7 @@ use Rattle.vram.specs.Memory.{goodLength, place}
 use Rattle.vram.proofs.Length.{good, wrap}
 use Rattle.block.specs.Byte.{readsSource}
 use Rattle.block.specs.declared.Block.{Block}
-use Rattle.stretch.specs.Stretch.{Drawing, strokeBy, struck, strokes}
+use Rattle.stretch.specs.Stretch.{Trace, strokeBy, struck, strokes}
 use Rattle.stretch.proofs.Strokes.{struck-length}
 
 module _ (L : ℕ) (g : goodLength L ≡ true) where
@@ -33,7 +33,7 @@ module _ (L : ℕ) (g : goodLength L ≡ true) where
       ∙ sym (wrap L g (b + k))
 
 -- one byte, by the same places, or with no source read
-module _ (b : Block) (from from′ to to′ : ℕ) (d : Drawing) where
+module _ (b : Block) (from from′ to to′ : ℕ) (d : Trace) where
   same-byte : place (length (d .mem)) from ≡ place (length (d .mem)) from′ → place (length (d .mem)) to ≡ place (length (d .mem)) to′ → struck b from to d ≡ struck b from′ to′ d
   unfolding struck strokeBy
   same-byte p q = rw (p, q)
@@ -44,7 +44,7 @@ module _ (b : Block) (from from′ to to′ : ℕ) (d : Drawing) where
 
 module _ (b : Block) (step : ℕ) where
   -- a stretch, by the same places
-  pub by-places : (along n from from′ to to′ : ℕ) (d : Drawing) → goodLength (length (d .mem)) ≡ true
+  pub by-places : (along n from from′ to to′ : ℕ) (d : Trace) → goodLength (length (d .mem)) ≡ true
       → place (length (d .mem)) from ≡ place (length (d .mem)) from′ → place (length (d .mem)) to ≡ place (length (d .mem)) to′
       → strokes b along step n from to d ≡ strokes b along step n from′ to′ d
   unfolding strokes
@@ -55,7 +55,7 @@ module _ (b : Block) (step : ℕ) where
       ∙ ap (strokes b along step n (from′ + along) (to′ + step)) (same-byte b from from′ to to′ d p q)
 
   -- and with no source read
-  pub unread : readsSource b ≡ false → (along along′ n from from′ to : ℕ) (d : Drawing) → strokes b along step n from to d ≡ strokes b along′ step n from′ to d
+  pub unread : readsSource b ≡ false → (along along′ n from from′ to : ℕ) (d : Trace) → strokes b along step n from to d ≡ strokes b along′ step n from′ to d
   unfolding strokes
   unread r along along′ zero from from′ to d = refl
   unread r along along′ (suc n) from from′ to d =

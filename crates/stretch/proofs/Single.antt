@@ -16,7 +16,7 @@ use Rattle.block.specs.Block.{modeOf}
 use Rattle.block.specs.Byte.{readsSource}
 use Rattle.block.specs.declared.Block.{Block}
 use Rattle.block.specs.declared.Struck.{Struck}
-use Rattle.stretch.specs.Stretch.{drawing, strokeBy, struck}
+use Rattle.stretch.specs.Stretch.{trace, strokeBy, struck}
 
 -- the source byte after both masks
 abbrev pub masked : Block → List ℕ → ℕ → ℕ
@@ -46,12 +46,12 @@ masked-read b mem from h = by-test (eqb (b .andmask) 0) refl
 
 module _ (b : Block) (mem : List ℕ) (from to code made : ℕ) where
   -- mode 0 with an AND mask of 0
-  pub fill-is : modeOf b ≡ 0 → b .andmask ≡ 0 → struck b from to (drawing mem code made) ≡ drawing (set mem (place (length mem) to) (b .xormask)) code (made + 1)
+  pub fill-is : modeOf b ≡ 0 → b .andmask ≡ 0 → struck b from to (trace mem code made) ≡ trace (set mem (place (length mem) to) (b .xormask)) code (made + 1)
   unfolding struck strokeBy strokeOf writesIn valueIn codeIn costIn accessesIn readsSource
   fill-is m a = rw (m, a, xor-zero-l (b .xormask))
 
   -- mode 0 with any other
-  pub copy-is : modeOf b ≡ 0 → (b .andmask ≡ 0 → ⊥) → struck b from to (drawing mem code made) ≡ drawing (set mem (place (length mem) to) (masked b mem from)) code (made + 2)
+  pub copy-is : modeOf b ≡ 0 → (b .andmask ≡ 0 → ⊥) → struck b from to (trace mem code made) ≡ trace (set mem (place (length mem) to) (masked b mem from)) code (made + 2)
   unfolding struck strokeBy strokeOf writesIn valueIn codeIn costIn accessesIn
   copy-is m a = rw (reads-some b a (under-7 m (omega arith)), m)
 
@@ -60,12 +60,12 @@ module _ (b : Block) (mem : List ℕ) (from to code made : ℕ) where
       {mode s d : ℕ} {k : Stroke} {u : Struck} {mem′ : List ℕ} → mode ≡ modeOf b → (modeOf b ≡ 7 → ⊥) → s ≡ masked b mem from → d ≡ cellAt mem to
       → k ≡ strokeOf mode (b .hitmask) s d code → (u .code ≡ k .code) × (u .accesses ≡ k .accesses + cond (readsSource b) 1 0)
       → mem′ ≡ cond (k .written) (set mem (place (length mem) to) (k .value)) mem
-      → struck b from to (drawing mem code made) ≡ drawing mem′ (u .code) (made + u .accesses)
+      → struck b from to (trace mem code made) ≡ trace mem′ (u .code) (made + u .accesses)
   unfolding struck strokeBy
   stroke-is m n sis dis kis uis mis =
       rw (mis, uis .0, uis .1, kis, sis, dis, m, masked-read b mem from n)
 
   -- mode 7 does nothing
-  pub still : modeOf b ≡ 7 → struck b from to (drawing mem code made) ≡ drawing mem code made
+  pub still : modeOf b ≡ 7 → struck b from to (trace mem code made) ≡ trace mem code made
   unfolding struck strokeBy strokeOf writesIn valueIn codeIn costIn accessesIn
-  still m = rw (reads-none b m, m) (ap (λ (n : ℕ). drawing mem code n) (add-zero made))
+  still m = rw (reads-none b m, m) (ap (λ (n : ℕ). trace mem code n) (add-zero made))

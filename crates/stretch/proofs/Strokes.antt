@@ -13,7 +13,7 @@ use Rattle.mode.proofs.Laws.{accesses-small}
 use Rattle.block.specs.Byte.{readsSource}
 use Rattle.block.specs.declared.Block.{Block}
 use Rattle.block.specs.declared.Struck.{Struck}
-use Rattle.stretch.specs.Stretch.{Drawing, drawing, strokeBy, struck, strokes}
+use Rattle.stretch.specs.Stretch.{Trace, trace, strokeBy, struck, strokes}
 
 -- a byte less is left, or none
 pub less : (count k : ℕ) → k < count → suc (count - (k + 1)) ≡ count - k
@@ -40,7 +40,7 @@ pub both-small :
 both-small b mode mask s d code k u e i = omega (arith, stroke-small mode mask s d code k e, read-small b, i .1)
 
 -- one byte keeps memory's length and has at most 3 accesses
-module _ (b : Block) (from to : ℕ) (d : Drawing) where
+module _ (b : Block) (from to : ℕ) (d : Trace) where
   pub struck-length : length (struck b from to d .mem) ≡ length (d .mem)
   unfolding struck
   struck-length = by-cond (λ (m : List ℕ). length m ≡ length (d .mem)) (strokeBy b (d .mem) from to (d .code) .written) _ (d .mem) (λ _. length-set (d .mem) _ _) (λ _. refl)
@@ -68,7 +68,7 @@ pub record Going (b : Block) (along step count from₀ to₀ : ℕ) (first : Lis
   pub long : length mem ≡ length first
   pub most : count ≤ 65535
   pub counted : made ≤ 3 * k
-  pub same : strokes b along step (count - k) from to (drawing mem code made) ≡ strokes b along step count from₀ to₀ (drawing first code₀ 0)
+  pub same : strokes b along step (count - k) from to (trace mem code made) ≡ strokes b along step count from₀ to₀ (trace first code₀ 0)
 
 module _ {b : Block} {along step count from₀ to₀ : ℕ} {first : List ℕ} {code₀ : ℕ} where
   pub start : goodLength (length first) ≡ true → count ≤ 65535 → Going b along step count from₀ to₀ first code₀ first from₀ to₀ code₀ 0 0
@@ -78,7 +78,7 @@ module _ {b : Block} {along step count from₀ to₀ : ℕ} {first : List ℕ} {
         long = refl;
         most = l;
         counted = omega arith;
-        same = ap (λ (n : ℕ). strokes b along step n from₀ to₀ (drawing first code₀ 0)) (all count);
+        same = ap (λ (n : ℕ). strokes b along step n from₀ to₀ (trace first code₀ 0)) (all count);
       }
 
   module _ {mem : List ℕ} {from to code made k : ℕ} (g : Going b along step count from₀ to₀ first code₀ mem from to code made k) where
@@ -93,25 +93,25 @@ module _ {b : Block} {along step count from₀ to₀ : ℕ} {first : List ℕ} {
     count-fits h = omega (arith, g .most)
 
     -- one byte more
-    pub on : {mem′ : List ℕ} {code′ made′ : ℕ} → k < count → struck b from to (drawing mem code made) ≡ drawing mem′ code′ made′
+    pub on : {mem′ : List ℕ} {code′ made′ : ℕ} → k < count → struck b from to (trace mem code made) ≡ trace mem′ code′ made′
         → Going b along step count from₀ to₀ first code₀ mem′ (from + along) (to + step) code′ made′ (k + 1)
     unfolding strokes
     on h e =
         record {
           good = g .good;
-          long = ap (λ (d : Drawing). length (d .mem)) (sym e) ∙ struck-length b from to (drawing mem code made) ∙ g .long;
+          long = ap (λ (d : Trace). length (d .mem)) (sym e) ∙ struck-length b from to (trace mem code made) ∙ g .long;
           most = g .most;
-          counted = omega (arith, g .counted, struck-small b from to (drawing mem code made), ap (λ (d : Drawing). d .accesses) e);
+          counted = omega (arith, g .counted, struck-small b from to (trace mem code made), ap (λ (d : Trace). d .accesses) e);
           same =
-              ap (λ (d : Drawing). strokes b along step (count - (k + 1)) (from + along) (to + step) d) (sym e)
-              ∙ ap (λ (n : ℕ). strokes b along step n from to (drawing mem code made)) (less count k h)
+              ap (λ (d : Trace). strokes b along step (count - (k + 1)) (from + along) (to + step) d) (sym e)
+              ∙ ap (λ (n : ℕ). strokes b along step n from to (trace mem code made)) (less count k h)
               ∙ g .same;
         }
 
     -- all bytes are done
-    pub done : count ≤ k → drawing mem code made ≡ strokes b along step count from₀ to₀ (drawing first code₀ 0)
+    pub done : count ≤ k → trace mem code made ≡ strokes b along step count from₀ to₀ (trace first code₀ 0)
     unfolding strokes
-    done h = ap (λ (n : ℕ). strokes b along step n from to (drawing mem code made)) (sym (none count k h)) ∙ g .same
+    done h = ap (λ (n : ℕ). strokes b along step n from to (trace mem code made)) (sym (none count k h)) ∙ g .same
 
 -- a loop that reads no source goes on alike, whatever the source's addresses are
 abbrev pub Filling : Block → ℕ → ℕ → ℕ → List ℕ → ℕ → List ℕ → ℕ → ℕ → ℕ → Type 0

@@ -9,7 +9,7 @@ use Rattle.vram.specs.Memory.{goodLength, place}
 use Rattle.block.specs.Block.{modeOf}
 use Rattle.block.specs.declared.Block.{Block}
 use Rattle.stretch.specs.declared.Stretch.{Stretch}
-use Rattle.stretch.specs.Stretch.{drawing, strokes}
+use Rattle.stretch.specs.Stretch.{trace, strokes}
 
 -- the steps: 1, and 1 of the sources where they are read, or 0 in mode 0, where one byte is copied many times; and no collision can be seen
 unfoldable pub levelOf : Block → ℕ → ℕ → Bool
@@ -48,7 +48,7 @@ firstOf s count = record { from = s .from; along = s .along; to = s .to; step = 
 -- what so many strokes make of memory, and their accesses, whatever the collision code is: it stays
 abbrev pub Makes : Block → ℕ → ℕ → ℕ → ℕ → ℕ → List ℕ → List ℕ → ℕ → Type 0
 Makes b along step count from to mem mem′ accesses =
-    (code : ℕ) → drawing mem′ code accesses ≡ strokes b along step count from to (drawing mem code 0)
+    (code : ℕ) → trace mem′ code accesses ≡ strokes b along step count from to (trace mem code 0)
 
 -- one value in n places from at on
 unfoldable pub painted : ℕ → List ℕ → ℕ → ℕ → List ℕ

@@ -23,31 +23,31 @@ strokeBy b mem from to code =
     code
 
 -- a stretch so far: memory, the collision code, the accesses
-pub record Drawing : Type 0 where
+pub record Trace : Type 0 where
   pub mem : List ℕ
   pub code : ℕ
   pub accesses : ℕ
 
-abbrev pub drawing : List ℕ → ℕ → ℕ → Drawing
-drawing mem code accesses = record { mem = mem; code = code; accesses = accesses }
+abbrev pub trace : List ℕ → ℕ → ℕ → Trace
+trace mem code accesses = record { mem = mem; code = code; accesses = accesses }
 
 -- one byte more: "A source read counts 1"
-unfoldable pub struck : Block → ℕ → ℕ → Drawing → Drawing
+unfoldable pub struck : Block → ℕ → ℕ → Trace → Trace
 struck b from to d =
     let k = strokeBy b (d .mem) from to (d .code) in
-    drawing
+    trace
     (cond (k .written) (set (d .mem) (place (length (d .mem)) to) (k .value)) (d .mem))
     (k .code)
     (d .accesses + (k .accesses + cond (readsSource b) 1 0))
 
 -- n bytes more, each address a step further
-unfoldable pub strokes : Block → ℕ → ℕ → ℕ → ℕ → ℕ → Drawing → Drawing
+unfoldable pub strokes : Block → ℕ → ℕ → ℕ → ℕ → ℕ → Trace → Trace
 strokes b along step zero from to d = d
 strokes b along step (suc n) from to d = strokes b along step n (from + along) (to + step) (struck b from to d)
 
 -- a whole stretch; in a memory of no board's length nothing is done
-unfoldable pub drawn : Block → Stretch → List ℕ → ℕ → Drawing
-drawn b s mem code =
+unfoldable pub traceOf : Block → Stretch → List ℕ → ℕ → Trace
+traceOf b s mem code =
     cond (goodLength (length mem))
-    (strokes b (s .along) (s .step) (s .count) (s .from) (s .to) (drawing mem code 0))
-    (drawing mem code 0)
+    (strokes b (s .along) (s .step) (s .count) (s .from) (s .to) (trace mem code 0))
+    (trace mem code 0)

@@ -9,7 +9,7 @@ ghost use lib.ListN.{length};
 ghost use Rattle.vram.specs.Memory.{goodLength, place};
 ghost use Rattle.mode.specs.Mode.{valueIn, writesIn};
 ghost use Rattle.block.specs.Block.{modeOf};
-ghost use Rattle.stretch.specs.Stretch.{drawing, strokes, drawn};
+ghost use Rattle.stretch.specs.Stretch.{trace, strokes, traceOf};
 ghost use Rattle.stretch.specs.Flat.{levelOf, untilEnd, beforeWrap, flatCount, firstOf, Flat, Makes, painted};
 use crate::Drawn;
 use crate::Stretch;
@@ -140,7 +140,7 @@ fn apart(place: usize, at: usize, count: u16) -> bool
 // Mode 0: a fill, a copy, or one byte copied many times. Where that byte is written on the way it is read each time.
 fn mode_0(block: Block, mem: &mut [u8], stretch: Stretch, from: usize, at: usize, code: u8) -> Drawn
     requires { ⌜ (goodLength (length (now mem)) ≡ true) × (modeOf block ≡ 0) × Flat (length (now mem)) block stretch × (at ≡ place (length (now mem)) (stretch .to)) × ((block .andmask ≡ 0 → ⊥) → from ≡ place (length (now mem)) (stretch .from)) ⌝ }
-    ensures { λ r. ⌜ drawing (now (mem .exit)) (r .code) (r .accesses) ≡ strokes block (stretch .along) (stretch .step) (stretch .count) (stretch .from) (stretch .to) (drawing (now (mem .entry)) code 0) ⌝ }
+    ensures { λ r. ⌜ trace (now (mem .exit)) (r .code) (r .accesses) ≡ strokes block (stretch .along) (stretch .step) (stretch .count) (stretch .from) (stretch .to) (trace (now (mem .entry)) code 0) ⌝ }
 {
     let count = stretch.count;
     if block.andmask == 0 {
@@ -184,7 +184,7 @@ fn first_source(n: usize, block: Block, stretch: Stretch, at: usize) -> usize
 // A flat stretch, by the loop of its mode; mode 7 does nothing.
 fn whole(block: Block, mem: &mut [u8], stretch: Stretch, code: u8) -> Drawn
     requires { ⌜ (goodLength (length (now mem)) ≡ true) × Flat (length (now mem)) block stretch ⌝ }
-    ensures { λ r. ⌜ drawing (now (mem .exit)) (r .code) (r .accesses) ≡ drawn block stretch (now (mem .entry)) code ⌝ }
+    ensures { λ r. ⌜ trace (now (mem .exit)) (r .code) (r .accesses) ≡ traceOf block stretch (now (mem .entry)) code ⌝ }
 {
     let at = index(mem.len(), stretch.to as usize);
     let from = first_source(mem.len(), block, stretch, at);
@@ -204,7 +204,7 @@ fn whole(block: Block, mem: &mut [u8], stretch: Stretch, code: u8) -> Drawn
 // The bytes of a stretch before a wrap, if they are flat; else none.
 pub fn draw(block: Block, mem: &mut [u8], mut stretch: Stretch, code: u8) -> Part
     ensures count { λ r. ⌜ r .count ≡ flatCount (length (now (mem .entry))) block stretch ⌝ }
-    ensures drawn { λ r. ⌜ drawing (now (mem .exit)) (r .code) (r .accesses) ≡ drawn block (firstOf stretch (r .count)) (now (mem .entry)) code ⌝ }
+    ensures drawn { λ r. ⌜ trace (now (mem .exit)) (r .code) (r .accesses) ≡ traceOf block (firstOf stretch (r .count)) (now (mem .entry)) code ⌝ }
 {
     if !(vram::good_length(mem.len()) & level(block, stretch.along, stretch.step)) {
         return Part {

@@ -1,10 +1,14 @@
 -- Document 01, "What the desk board is": video memory is a lent slice, here a list of bytes.
 use mathlib.Core.Bool.{Bool, _&&_}
 use mathlib.Core.List.{List}
-use Prim.Native.Nat.{ℕ, _+_, _*_, _%_}
+use Prim.Native.Nat.{ℕ, _+_, _*_, _%_, _<_}
 use lib.Count.{ones}
 use lib.Dec.{eqb, leb}
 use lib.ListN.{length, getD}
+
+-- every byte is below 256
+abbrev pub Bytes : List ℕ → Type 0
+Bytes s = (i : ℕ) → getD s i 0 < 256
 
 -- "a number with exactly one bit set, from 16,384 to 524,288"
 abbrev pub goodLength : ℕ → Bool

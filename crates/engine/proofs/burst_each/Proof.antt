@@ -3,7 +3,7 @@ use mathlib.Core.Path.{_≡_, refl, sym, ap, _∙_}
 use Prim.Native.Nat.{_-_, _+_, _<_}
 use native.Mathlib.Omega.{arith}
 use Rattle.block.proofs.Sizes.{columns-small, rows-small}
-use Rattle.stretch.specs.Stretch.{drawn}
+use Rattle.stretch.specs.Stretch.{traceOf}
 use Rattle.stretch.specs.declared.Stretch.{Stretch}
 use Rattle.engine.specs.declared.Place.{Place}
 use Rattle.engine.specs.Engine.{placeAt}
@@ -60,7 +60,7 @@ draw-requires : tie.Need-draw-requires Inv-loop μ-loop
 draw-requires c κs = tt
 
 add-made : tie.Need-add-made Inv-loop μ-loop
-add-made c = record { fits = omega (arith, c .before .before .before .before .before .before .before .before .before .loop .inv .0 .counted, c .before .before .before .before .before .before .before .before .before .loop .inv .0 .from .small, c .before .before .before .before .before .before .before .before .before .loop .inv .0 .within, c .before .before .before .before .before .before .least .ensures .2, stretch-few _ _ _ _ _ (c .before .before .before .before .before .before .before .before .before .loop .inv .0) (c .before .before .before .before .before .before .least .result) (c .before .before .before .before .before .before .least .ensures .0) (reach-less _ _ _ _ _ (c .before .before .before .before .before .before .least .ensures .1) (c .before .before .before .before .before .before .before .reach .ensures .1)) (omega (arith, c .before .before .before .before .before .before .least .ensures .2, c .before .before .before .before .before .before .before .before .loop-test .taken)) _ (c .before .before .before .draw .ensures ∙ ap (λ (s : Stretch). drawn (c .before .before .before .before .before .before .before .before .before .before .before .before .before .before .before .args .blitter .block) s (c .before .before .before .before .before .before .before .before .before .loop .mem) (c .before .before .before .before .before .before .before .before .before .loop .code)) (c .before .before .before .before .before .stretch .ensures))) }
+add-made c = record { fits = omega (arith, c .before .before .before .before .before .before .before .before .before .loop .inv .0 .counted, c .before .before .before .before .before .before .before .before .before .loop .inv .0 .from .small, c .before .before .before .before .before .before .before .before .before .loop .inv .0 .within, c .before .before .before .before .before .before .least .ensures .2, stretch-few _ _ _ _ _ (c .before .before .before .before .before .before .before .before .before .loop .inv .0) (c .before .before .before .before .before .before .least .result) (c .before .before .before .before .before .before .least .ensures .0) (reach-less _ _ _ _ _ (c .before .before .before .before .before .before .least .ensures .1) (c .before .before .before .before .before .before .before .reach .ensures .1)) (omega (arith, c .before .before .before .before .before .before .least .ensures .2, c .before .before .before .before .before .before .before .before .loop-test .taken)) _ (c .before .before .before .draw .ensures ∙ ap (λ (s : Stretch). traceOf (c .before .before .before .before .before .before .before .before .before .before .before .before .before .before .before .args .blitter .block) s (c .before .before .before .before .before .before .before .before .before .loop .mem) (c .before .before .before .before .before .before .before .before .before .loop .code)) (c .before .before .before .before .before .stretch .ensures))) }
 
 add-done : tie.Need-add-done Inv-loop μ-loop
 add-done c = record { fits = omega (arith, c .before .before .before .before .before .before .before .before .before .loop .inv .0 .from .small, c .before .before .before .before .before .before .least .ensures .2, c .before .before .before .before .before .before .before .before .loop-test .taken) }
@@ -72,37 +72,37 @@ ahead-requires : tie.Need-ahead-requires Inv-loop μ-loop
 ahead-requires c κs = (record { at = c .before .before .before .before .before .before .before .before .before .loop .inv .1; row-in = c .before .before .before .before .before .before .before .before .before .loop .inv .0 .place .row-in; col-in = c .before .before .before .before .before .before .before .before .before .loop .inv .0 .place .col-in }, reach-less _ _ _ _ _ (omega (arith, c .before .before .before .before .before .before .least .ensures .0, c .before .before .before .before .before .before .least .ensures .1)) (c .before .before .before .before .before .before .before .reach .ensures .1))
 
 add-if1 : tie.Need-add-if1 Inv-loop μ-loop
-add-if1 c = record { fits = omega (arith, ap (λ (p : Place). p .col) (c .before .ahead .ensures), (last-in _ _ _ _ _ (c .before .before .before .before .before .before .before .before .before .before .before .loop .inv .0) (c .before .before .before .before .before .before .before .before .least .result) (c .before .before .before .before .before .before .before .before .least .ensures .0) (reach-less _ _ _ _ _ (c .before .before .before .before .before .before .before .before .least .ensures .1) (c .before .before .before .before .before .before .before .before .before .reach .ensures .1)) (omega (arith, c .before .before .before .before .before .before .before .before .least .ensures .2, c .before .before .before .before .before .before .before .before .before .before .loop-test .taken)) _ (c .before .before .before .before .before .draw .ensures ∙ ap (λ (s : Stretch). drawn (c .before .before .before .before .before .before .before .before .before .before .before .before .before .before .before .before .before .args .blitter .block) s (c .before .before .before .before .before .before .before .before .before .before .before .loop .mem) (c .before .before .before .before .before .before .before .before .before .before .before .loop .code)) (c .before .before .before .before .before .before .before .stretch .ensures))) .col-in, columns-small (c .before .before .before .before .before .before .before .before .before .before .before .before .before .before .before .before .before .args .blitter .block) (width-in (c .before .before .before .before .before .before .before .before .before .before .before .before .before .before .before .before .before))) }
+add-if1 c = record { fits = omega (arith, ap (λ (p : Place). p .col) (c .before .ahead .ensures), (last-in _ _ _ _ _ (c .before .before .before .before .before .before .before .before .before .before .before .loop .inv .0) (c .before .before .before .before .before .before .before .before .least .result) (c .before .before .before .before .before .before .before .before .least .ensures .0) (reach-less _ _ _ _ _ (c .before .before .before .before .before .before .before .before .least .ensures .1) (c .before .before .before .before .before .before .before .before .before .reach .ensures .1)) (omega (arith, c .before .before .before .before .before .before .before .before .least .ensures .2, c .before .before .before .before .before .before .before .before .before .before .loop-test .taken)) _ (c .before .before .before .before .before .draw .ensures ∙ ap (λ (s : Stretch). traceOf (c .before .before .before .before .before .before .before .before .before .before .before .before .before .before .before .before .before .args .blitter .block) s (c .before .before .before .before .before .before .before .before .before .before .before .loop .mem) (c .before .before .before .before .before .before .before .before .before .before .before .loop .code)) (c .before .before .before .before .before .before .before .stretch .ensures))) .col-in, columns-small (c .before .before .before .before .before .before .before .before .before .before .before .before .before .before .before .before .before .args .blitter .block) (width-in (c .before .before .before .before .before .before .before .before .before .before .before .before .before .before .before .before .before))) }
 
 next-col-requires : tie.Need-next-col-requires Inv-loop μ-loop
-next-col-requires c κs = (rw (c .before .before .ahead .ensures) refl, omega (arith, ap (λ (p : Place). p .col) (c .before .before .ahead .ensures), (last-in _ _ _ _ _ (c .before .before .before .before .before .before .before .before .before .before .before .before .loop .inv .0) (c .before .before .before .before .before .before .before .before .before .least .result) (c .before .before .before .before .before .before .before .before .before .least .ensures .0) (reach-less _ _ _ _ _ (c .before .before .before .before .before .before .before .before .before .least .ensures .1) (c .before .before .before .before .before .before .before .before .before .before .reach .ensures .1)) (omega (arith, c .before .before .before .before .before .before .before .before .before .least .ensures .2, c .before .before .before .before .before .before .before .before .before .before .before .loop-test .taken)) _ (c .before .before .before .before .before .before .draw .ensures ∙ ap (λ (s : Stretch). drawn (c .before .before .before .before .before .before .before .before .before .before .before .before .before .before .before .before .before .before .args .blitter .block) s (c .before .before .before .before .before .before .before .before .before .before .before .before .loop .mem) (c .before .before .before .before .before .before .before .before .before .before .before .before .loop .code)) (c .before .before .before .before .before .before .before .before .stretch .ensures))) .col-in, columns-small (c .before .before .before .before .before .before .before .before .before .before .before .before .before .before .before .before .before .before .args .blitter .block) (width-in (c .before .before .before .before .before .before .before .before .before .before .before .before .before .before .before .before .before .before))))
+next-col-requires c κs = (rw (c .before .before .ahead .ensures) refl, omega (arith, ap (λ (p : Place). p .col) (c .before .before .ahead .ensures), (last-in _ _ _ _ _ (c .before .before .before .before .before .before .before .before .before .before .before .before .loop .inv .0) (c .before .before .before .before .before .before .before .before .before .least .result) (c .before .before .before .before .before .before .before .before .before .least .ensures .0) (reach-less _ _ _ _ _ (c .before .before .before .before .before .before .before .before .before .least .ensures .1) (c .before .before .before .before .before .before .before .before .before .before .reach .ensures .1)) (omega (arith, c .before .before .before .before .before .before .before .before .before .least .ensures .2, c .before .before .before .before .before .before .before .before .before .before .before .loop-test .taken)) _ (c .before .before .before .before .before .before .draw .ensures ∙ ap (λ (s : Stretch). traceOf (c .before .before .before .before .before .before .before .before .before .before .before .before .before .before .before .before .before .before .args .blitter .block) s (c .before .before .before .before .before .before .before .before .before .before .before .before .loop .mem) (c .before .before .before .before .before .before .before .before .before .before .before .before .loop .code)) (c .before .before .before .before .before .before .before .before .stretch .ensures))) .col-in, columns-small (c .before .before .before .before .before .before .before .before .before .before .before .before .before .before .before .before .before .before .args .blitter .block) (width-in (c .before .before .before .before .before .before .before .before .before .before .before .before .before .before .before .before .before .before))))
 
 loop-less : tie.Need-loop-less Inv-loop μ-loop
 loop-less c = omega (arith, c .before .before .before .before .before .before .before .before .before .before .before .before .loop-test .taken, c .before .before .before .before .before .before .before .before .before .before .least .ensures .0, c .before .before .before .before .before .before .before .before .before .before .least .ensures .2)
 
 loop-again : tie.Need-loop-again Inv-loop μ-loop
-loop-again c = rw (c .next-col .ensures, c .before .before .before .ahead .ensures) (stretch-col _ _ _ _ _ (c .before .before .before .before .before .before .before .before .before .before .before .before .before .loop .inv .0) (c .before .before .before .before .before .before .before .before .before .before .least .result) (c .before .before .before .before .before .before .before .before .before .before .least .ensures .0) (reach-less _ _ _ _ _ (c .before .before .before .before .before .before .before .before .before .before .least .ensures .1) (c .before .before .before .before .before .before .before .before .before .before .before .reach .ensures .1)) (omega (arith, c .before .before .before .before .before .before .before .before .before .before .least .ensures .2, c .before .before .before .before .before .before .before .before .before .before .before .before .loop-test .taken)) _ (c .before .before .before .before .before .before .before .draw .ensures ∙ ap (λ (s : Stretch). drawn (c .before .before .before .before .before .before .before .before .before .before .before .before .before .before .before .before .before .before .before .args .blitter .block) s (c .before .before .before .before .before .before .before .before .before .before .before .before .before .loop .mem) (c .before .before .before .before .before .before .before .before .before .before .before .before .before .loop .code)) (c .before .before .before .before .before .before .before .before .before .stretch .ensures)) (omega (arith, c .before .if1 .taken, c .before .before .before .before .before .before .before .before .before .before .before .before .before .before .before .before .columns .ensures, ap (λ (p : Place). p .col) (c .before .before .before .ahead .ensures))), refl)
+loop-again c = rw (c .next-col .ensures, c .before .before .before .ahead .ensures) (stretch-col _ _ _ _ _ (c .before .before .before .before .before .before .before .before .before .before .before .before .before .loop .inv .0) (c .before .before .before .before .before .before .before .before .before .before .least .result) (c .before .before .before .before .before .before .before .before .before .before .least .ensures .0) (reach-less _ _ _ _ _ (c .before .before .before .before .before .before .before .before .before .before .least .ensures .1) (c .before .before .before .before .before .before .before .before .before .before .before .reach .ensures .1)) (omega (arith, c .before .before .before .before .before .before .before .before .before .before .least .ensures .2, c .before .before .before .before .before .before .before .before .before .before .before .before .loop-test .taken)) _ (c .before .before .before .before .before .before .before .draw .ensures ∙ ap (λ (s : Stretch). traceOf (c .before .before .before .before .before .before .before .before .before .before .before .before .before .before .before .before .before .before .before .args .blitter .block) s (c .before .before .before .before .before .before .before .before .before .before .before .before .before .loop .mem) (c .before .before .before .before .before .before .before .before .before .before .before .before .before .loop .code)) (c .before .before .before .before .before .before .before .before .before .stretch .ensures)) (omega (arith, c .before .if1 .taken, c .before .before .before .before .before .before .before .before .before .before .before .before .before .before .before .before .columns .ensures, ap (λ (p : Place). p .col) (c .before .before .before .ahead .ensures))), refl)
 
 add-if2 : tie.Need-add-if2 Inv-loop μ-loop
-add-if2 c = record { fits = omega (arith, ap (λ (p : Place). p .row) (c .before .before .before .ahead .ensures), (last-in _ _ _ _ _ (c .before .before .before .before .before .before .before .before .before .before .before .before .before .loop .inv .0) (c .before .before .before .before .before .before .before .before .before .before .least .result) (c .before .before .before .before .before .before .before .before .before .before .least .ensures .0) (reach-less _ _ _ _ _ (c .before .before .before .before .before .before .before .before .before .before .least .ensures .1) (c .before .before .before .before .before .before .before .before .before .before .before .reach .ensures .1)) (omega (arith, c .before .before .before .before .before .before .before .before .before .before .least .ensures .2, c .before .before .before .before .before .before .before .before .before .before .before .before .loop-test .taken)) _ (c .before .before .before .before .before .before .before .draw .ensures ∙ ap (λ (s : Stretch). drawn (c .before .before .before .before .before .before .before .before .before .before .before .before .before .before .before .before .before .before .before .args .blitter .block) s (c .before .before .before .before .before .before .before .before .before .before .before .before .before .loop .mem) (c .before .before .before .before .before .before .before .before .before .before .before .before .before .loop .code)) (c .before .before .before .before .before .before .before .before .before .stretch .ensures))) .row-in, rows-small (c .before .before .before .before .before .before .before .before .before .before .before .before .before .before .before .before .before .before .before .args .blitter .block) (height-in (c .before .before .before .before .before .before .before .before .before .before .before .before .before .before .before .before .before .before .before))) }
+add-if2 c = record { fits = omega (arith, ap (λ (p : Place). p .row) (c .before .before .before .ahead .ensures), (last-in _ _ _ _ _ (c .before .before .before .before .before .before .before .before .before .before .before .before .before .loop .inv .0) (c .before .before .before .before .before .before .before .before .before .before .least .result) (c .before .before .before .before .before .before .before .before .before .before .least .ensures .0) (reach-less _ _ _ _ _ (c .before .before .before .before .before .before .before .before .before .before .least .ensures .1) (c .before .before .before .before .before .before .before .before .before .before .before .reach .ensures .1)) (omega (arith, c .before .before .before .before .before .before .before .before .before .before .least .ensures .2, c .before .before .before .before .before .before .before .before .before .before .before .before .loop-test .taken)) _ (c .before .before .before .before .before .before .before .draw .ensures ∙ ap (λ (s : Stretch). traceOf (c .before .before .before .before .before .before .before .before .before .before .before .before .before .before .before .before .before .before .before .args .blitter .block) s (c .before .before .before .before .before .before .before .before .before .before .before .before .before .loop .mem) (c .before .before .before .before .before .before .before .before .before .before .before .before .before .loop .code)) (c .before .before .before .before .before .before .before .before .before .stretch .ensures))) .row-in, rows-small (c .before .before .before .before .before .before .before .before .before .before .before .before .before .before .before .before .before .before .before .args .blitter .block) (height-in (c .before .before .before .before .before .before .before .before .before .before .before .before .before .before .before .before .before .before .before))) }
 
 next-row-requires : tie.Need-next-row-requires Inv-loop μ-loop
-next-row-requires c κs = (rw (c .before .before .before .before .ahead .ensures) refl, omega (arith, ap (λ (p : Place). p .row) (c .before .before .before .before .ahead .ensures), (last-in _ _ _ _ _ (c .before .before .before .before .before .before .before .before .before .before .before .before .before .before .loop .inv .0) (c .before .before .before .before .before .before .before .before .before .before .before .least .result) (c .before .before .before .before .before .before .before .before .before .before .before .least .ensures .0) (reach-less _ _ _ _ _ (c .before .before .before .before .before .before .before .before .before .before .before .least .ensures .1) (c .before .before .before .before .before .before .before .before .before .before .before .before .reach .ensures .1)) (omega (arith, c .before .before .before .before .before .before .before .before .before .before .before .least .ensures .2, c .before .before .before .before .before .before .before .before .before .before .before .before .before .loop-test .taken)) _ (c .before .before .before .before .before .before .before .before .draw .ensures ∙ ap (λ (s : Stretch). drawn (c .before .before .before .before .before .before .before .before .before .before .before .before .before .before .before .before .before .before .before .before .args .blitter .block) s (c .before .before .before .before .before .before .before .before .before .before .before .before .before .before .loop .mem) (c .before .before .before .before .before .before .before .before .before .before .before .before .before .before .loop .code)) (c .before .before .before .before .before .before .before .before .before .before .stretch .ensures))) .row-in, rows-small (c .before .before .before .before .before .before .before .before .before .before .before .before .before .before .before .before .before .before .before .before .args .blitter .block) (height-in (c .before .before .before .before .before .before .before .before .before .before .before .before .before .before .before .before .before .before .before .before))))
+next-row-requires c κs = (rw (c .before .before .before .before .ahead .ensures) refl, omega (arith, ap (λ (p : Place). p .row) (c .before .before .before .before .ahead .ensures), (last-in _ _ _ _ _ (c .before .before .before .before .before .before .before .before .before .before .before .before .before .before .loop .inv .0) (c .before .before .before .before .before .before .before .before .before .before .before .least .result) (c .before .before .before .before .before .before .before .before .before .before .before .least .ensures .0) (reach-less _ _ _ _ _ (c .before .before .before .before .before .before .before .before .before .before .before .least .ensures .1) (c .before .before .before .before .before .before .before .before .before .before .before .before .reach .ensures .1)) (omega (arith, c .before .before .before .before .before .before .before .before .before .before .before .least .ensures .2, c .before .before .before .before .before .before .before .before .before .before .before .before .before .loop-test .taken)) _ (c .before .before .before .before .before .before .before .before .draw .ensures ∙ ap (λ (s : Stretch). traceOf (c .before .before .before .before .before .before .before .before .before .before .before .before .before .before .before .before .before .before .before .before .args .blitter .block) s (c .before .before .before .before .before .before .before .before .before .before .before .before .before .before .loop .mem) (c .before .before .before .before .before .before .before .before .before .before .before .before .before .before .loop .code)) (c .before .before .before .before .before .before .before .before .before .before .stretch .ensures))) .row-in, rows-small (c .before .before .before .before .before .before .before .before .before .before .before .before .before .before .before .before .before .before .before .before .args .blitter .block) (height-in (c .before .before .before .before .before .before .before .before .before .before .before .before .before .before .before .before .before .before .before .before))))
 
 loop-less-2 : tie.Need-loop-less-2 Inv-loop μ-loop
 loop-less-2 c = omega (arith, c .before .before .before .before .before .before .before .before .before .before .before .before .before .before .loop-test .taken, c .before .before .before .before .before .before .before .before .before .before .before .before .least .ensures .0, c .before .before .before .before .before .before .before .before .before .before .before .before .least .ensures .2)
 
 loop-again-2 : tie.Need-loop-again-2 Inv-loop μ-loop
-loop-again-2 c = rw (c .next-row .ensures, c .before .before .before .before .before .ahead .ensures) (stretch-row _ _ _ _ _ (c .before .before .before .before .before .before .before .before .before .before .before .before .before .before .before .loop .inv .0) (c .before .before .before .before .before .before .before .before .before .before .before .before .least .result) (c .before .before .before .before .before .before .before .before .before .before .before .before .least .ensures .0) (reach-less _ _ _ _ _ (c .before .before .before .before .before .before .before .before .before .before .before .before .least .ensures .1) (c .before .before .before .before .before .before .before .before .before .before .before .before .before .reach .ensures .1)) (omega (arith, c .before .before .before .before .before .before .before .before .before .before .before .before .least .ensures .2, c .before .before .before .before .before .before .before .before .before .before .before .before .before .before .loop-test .taken)) _ (c .before .before .before .before .before .before .before .before .before .draw .ensures ∙ ap (λ (s : Stretch). drawn (c .before .before .before .before .before .before .before .before .before .before .before .before .before .before .before .before .before .before .before .before .before .args .blitter .block) s (c .before .before .before .before .before .before .before .before .before .before .before .before .before .before .before .loop .mem) (c .before .before .before .before .before .before .before .before .before .before .before .before .before .before .before .loop .code)) (c .before .before .before .before .before .before .before .before .before .before .before .stretch .ensures)) (omega (arith, c .before .before .before .if1 .left, c .before .before .before .before .before .before .before .before .before .before .before .before .before .before .before .before .before .before .columns .ensures, ap (λ (p : Place). p .col) (c .before .before .before .before .before .ahead .ensures))) (omega (arith, c .before .if2 .taken, c .before .before .before .before .before .before .before .before .before .before .before .before .before .before .before .before .before .rows .ensures, ap (λ (p : Place). p .row) (c .before .before .before .before .before .ahead .ensures))), refl)
+loop-again-2 c = rw (c .next-row .ensures, c .before .before .before .before .before .ahead .ensures) (stretch-row _ _ _ _ _ (c .before .before .before .before .before .before .before .before .before .before .before .before .before .before .before .loop .inv .0) (c .before .before .before .before .before .before .before .before .before .before .before .before .least .result) (c .before .before .before .before .before .before .before .before .before .before .before .before .least .ensures .0) (reach-less _ _ _ _ _ (c .before .before .before .before .before .before .before .before .before .before .before .before .least .ensures .1) (c .before .before .before .before .before .before .before .before .before .before .before .before .before .reach .ensures .1)) (omega (arith, c .before .before .before .before .before .before .before .before .before .before .before .before .least .ensures .2, c .before .before .before .before .before .before .before .before .before .before .before .before .before .before .loop-test .taken)) _ (c .before .before .before .before .before .before .before .before .before .draw .ensures ∙ ap (λ (s : Stretch). traceOf (c .before .before .before .before .before .before .before .before .before .before .before .before .before .before .before .before .before .before .before .before .before .args .blitter .block) s (c .before .before .before .before .before .before .before .before .before .before .before .before .before .before .before .loop .mem) (c .before .before .before .before .before .before .before .before .before .before .before .before .before .before .before .loop .code)) (c .before .before .before .before .before .before .before .before .before .before .before .stretch .ensures)) (omega (arith, c .before .before .before .if1 .left, c .before .before .before .before .before .before .before .before .before .before .before .before .before .before .before .before .before .before .columns .ensures, ap (λ (p : Place). p .col) (c .before .before .before .before .before .ahead .ensures))) (omega (arith, c .before .if2 .taken, c .before .before .before .before .before .before .before .before .before .before .before .before .before .before .before .before .before .rows .ensures, ap (λ (p : Place). p .row) (c .before .before .before .before .before .ahead .ensures))), refl)
 
 end-requires : tie.Need-end-requires Inv-loop μ-loop
 end-requires c κs = tt
 
 same-length : tie.Need-same-length Inv-loop μ-loop
-same-length c = (stretch-end _ _ _ _ _ (c .before .before .before .before .before .before .before .before .before .before .before .before .before .before .before .loop .inv .0) (c .before .before .before .before .before .before .before .before .before .before .before .before .least .result) (c .before .before .before .before .before .before .before .before .before .before .before .before .least .ensures .0) (reach-less _ _ _ _ _ (c .before .before .before .before .before .before .before .before .before .before .before .before .least .ensures .1) (c .before .before .before .before .before .before .before .before .before .before .before .before .before .reach .ensures .1)) (omega (arith, c .before .before .before .before .before .before .before .before .before .before .before .before .least .ensures .2, c .before .before .before .before .before .before .before .before .before .before .before .before .before .before .loop-test .taken)) _ (c .before .before .before .before .before .before .before .before .before .draw .ensures ∙ ap (λ (s : Stretch). drawn (c .before .before .before .before .before .before .before .before .before .before .before .before .before .before .before .before .before .before .before .before .before .args .blitter .block) s (c .before .before .before .before .before .before .before .before .before .before .before .before .before .before .before .loop .mem) (c .before .before .before .before .before .before .before .before .before .before .before .before .before .before .before .loop .code)) (c .before .before .before .before .before .before .before .before .before .before .before .stretch .ensures)) (omega (arith, c .before .before .before .if1 .left, c .before .before .before .before .before .before .before .before .before .before .before .before .before .before .before .before .before .before .columns .ensures, ap (λ (p : Place). p .col) (c .before .before .before .before .before .ahead .ensures))) (omega (arith, c .before .if2 .left, c .before .before .before .before .before .before .before .before .before .before .before .before .before .before .before .before .before .rows .ensures, ap (λ (p : Place). p .row) (c .before .before .before .before .before .ahead .ensures)))) .long
+same-length c = (stretch-end _ _ _ _ _ (c .before .before .before .before .before .before .before .before .before .before .before .before .before .before .before .loop .inv .0) (c .before .before .before .before .before .before .before .before .before .before .before .before .least .result) (c .before .before .before .before .before .before .before .before .before .before .before .before .least .ensures .0) (reach-less _ _ _ _ _ (c .before .before .before .before .before .before .before .before .before .before .before .before .least .ensures .1) (c .before .before .before .before .before .before .before .before .before .before .before .before .before .reach .ensures .1)) (omega (arith, c .before .before .before .before .before .before .before .before .before .before .before .before .least .ensures .2, c .before .before .before .before .before .before .before .before .before .before .before .before .before .before .loop-test .taken)) _ (c .before .before .before .before .before .before .before .before .before .draw .ensures ∙ ap (λ (s : Stretch). traceOf (c .before .before .before .before .before .before .before .before .before .before .before .before .before .before .before .before .before .before .before .before .before .args .blitter .block) s (c .before .before .before .before .before .before .before .before .before .before .before .before .before .before .before .loop .mem) (c .before .before .before .before .before .before .before .before .before .before .before .before .before .before .before .loop .code)) (c .before .before .before .before .before .before .before .before .before .before .before .stretch .ensures)) (omega (arith, c .before .before .before .if1 .left, c .before .before .before .before .before .before .before .before .before .before .before .before .before .before .before .before .before .before .columns .ensures, ap (λ (p : Place). p .col) (c .before .before .before .before .before .ahead .ensures))) (omega (arith, c .before .if2 .left, c .before .before .before .before .before .before .before .before .before .before .before .before .before .before .before .before .before .rows .ensures, ap (λ (p : Place). p .row) (c .before .before .before .before .before .ahead .ensures)))) .long
 
 returns : tie.Need-returns Inv-loop μ-loop
-returns c = rw (c .end .ensures) (stretch-end _ _ _ _ _ (c .before .before .before .before .before .before .before .before .before .before .before .before .before .before .before .loop .inv .0) (c .before .before .before .before .before .before .before .before .before .before .before .before .least .result) (c .before .before .before .before .before .before .before .before .before .before .before .before .least .ensures .0) (reach-less _ _ _ _ _ (c .before .before .before .before .before .before .before .before .before .before .before .before .least .ensures .1) (c .before .before .before .before .before .before .before .before .before .before .before .before .before .reach .ensures .1)) (omega (arith, c .before .before .before .before .before .before .before .before .before .before .before .before .least .ensures .2, c .before .before .before .before .before .before .before .before .before .before .before .before .before .before .loop-test .taken)) _ (c .before .before .before .before .before .before .before .before .before .draw .ensures ∙ ap (λ (s : Stretch). drawn (c .before .before .before .before .before .before .before .before .before .before .before .before .before .before .before .before .before .before .before .before .before .args .blitter .block) s (c .before .before .before .before .before .before .before .before .before .before .before .before .before .before .before .loop .mem) (c .before .before .before .before .before .before .before .before .before .before .before .before .before .before .before .loop .code)) (c .before .before .before .before .before .before .before .before .before .before .before .stretch .ensures)) (omega (arith, c .before .before .before .if1 .left, c .before .before .before .before .before .before .before .before .before .before .before .before .before .before .before .before .before .before .columns .ensures, ap (λ (p : Place). p .col) (c .before .before .before .before .before .ahead .ensures))) (omega (arith, c .before .if2 .left, c .before .before .before .before .before .before .before .before .before .before .before .before .before .before .before .before .before .rows .ensures, ap (λ (p : Place). p .row) (c .before .before .before .before .before .ahead .ensures))))
+returns c = rw (c .end .ensures) (stretch-end _ _ _ _ _ (c .before .before .before .before .before .before .before .before .before .before .before .before .before .before .before .loop .inv .0) (c .before .before .before .before .before .before .before .before .before .before .before .before .least .result) (c .before .before .before .before .before .before .before .before .before .before .before .before .least .ensures .0) (reach-less _ _ _ _ _ (c .before .before .before .before .before .before .before .before .before .before .before .before .least .ensures .1) (c .before .before .before .before .before .before .before .before .before .before .before .before .before .reach .ensures .1)) (omega (arith, c .before .before .before .before .before .before .before .before .before .before .before .before .least .ensures .2, c .before .before .before .before .before .before .before .before .before .before .before .before .before .before .loop-test .taken)) _ (c .before .before .before .before .before .before .before .before .before .draw .ensures ∙ ap (λ (s : Stretch). traceOf (c .before .before .before .before .before .before .before .before .before .before .before .before .before .before .before .before .before .before .before .before .before .args .blitter .block) s (c .before .before .before .before .before .before .before .before .before .before .before .before .before .before .before .loop .mem) (c .before .before .before .before .before .before .before .before .before .before .before .before .before .before .before .loop .code)) (c .before .before .before .before .before .before .before .before .before .before .before .stretch .ensures)) (omega (arith, c .before .before .before .if1 .left, c .before .before .before .before .before .before .before .before .before .before .before .before .before .before .before .before .before .before .columns .ensures, ap (λ (p : Place). p .col) (c .before .before .before .before .before .ahead .ensures))) (omega (arith, c .before .if2 .left, c .before .before .before .before .before .before .before .before .before .before .before .before .before .before .before .before .before .rows .ensures, ap (λ (p : Place). p .row) (c .before .before .before .before .before .ahead .ensures))))
 
 cast-blitter : tie.Need-cast-blitter Inv-loop μ-loop
 cast-blitter c = record { fits = omega (arith, c .before .before .loop .inv .0 .place .row-in, rows-small (c .before .before .before .before .before .before .before .before .args .blitter .block) (height-in (c .before .before .before .before .before .before .before .before))) }

@@ -3,7 +3,7 @@ use mathlib.Core.Path.{_≡_, refl}
 use Prim.Native.Nat.{_-_, _<_}
 use native.Mathlib.Omega.{arith}
 use Rattle.block.proofs.Sizes.{columns-small, rows-small}
-use Rattle.stretch.specs.Stretch.{drawing}
+use Rattle.stretch.specs.Stretch.{trace}
 use Rattle.engine.specs.Engine.{placeAt}
 use Rattle.engine.proofs.Reaching.{reach-small}
 use Rattle.engine.proofs.FlatBursts.{Turned, AtOnce, turned-start, turned-room, turned-going, turned-left, at-once, once-some, once-reach, once-room, once-accesses, once-turned}
@@ -30,7 +30,7 @@ once :
     → let l = c .before .before .before .before .before .before .before .loop in
     let a = c .before .before .before .before .before .before .before .before .before .before .before .before .args in
     let r = c .draw .result in
-    AtOnce (a .blitter) (a .mem .now) (a .ticks) (a .accesses) (a .budget) (l .mem) (l .place .row) (l .place .col) (l .code) (l .done) (l .made) (c .before .before .before .least .result) (r .count) (drawing (c .draw .last .1 .0) (r .code) (r .accesses))
+    AtOnce (a .blitter) (a .mem .now) (a .ticks) (a .accesses) (a .budget) (l .mem) (l .place .row) (l .place .col) (l .code) (l .done) (l .made) (c .before .before .before .least .result) (r .count) (trace (c .draw .last .1 .0) (r .code) (r .accesses))
 once c =
     let d = c .draw .ensures in
     let bytes = c .before .before .stretch .ensures in
