@@ -80,20 +80,20 @@ module _ (b : Board) (mem : List ℕ) (budget : ℕ) where
 
     -- past these the blitter's own answer is the board's
     module _ (s : soundPorts (b .ports) ≡ true) where
-      same-answer : runAnswer b mem budget ≡ blit.runAnswer (b .blitter) mem budget
-      unfolding runAnswer soundBoard blit.runAnswer
+      same-answer : runAnswer b mem budget ≡ blit.engineAnswer (b .blitter) mem budget
+      unfolding runAnswer soundBoard blit.engineAnswer
       same-answer = simp (g, s)
 
       pub as-blitter :
-          (told : Told Counts) (t : Blitter) (mem′ : List ℕ) → told ≡ blit.runAnswer (b .blitter) mem budget → t ≡ blit.runBlitter (b .blitter) mem budget
-          → mem′ ≡ blit.runMemory (b .blitter) mem budget → Gives told (record { ports = b .ports; blitter = t }) mem′
-      unfolding runBoard runMemory blit.runBlitter blit.runMemory
+          (told : Told Counts) (t : Blitter) (mem′ : List ℕ) → told ≡ blit.engineAnswer (b .blitter) mem budget → t ≡ blit.engineBlitter (b .blitter) mem budget
+          → mem′ ≡ blit.engineMemory (b .blitter) mem budget → Gives told (record { ports = b .ports; blitter = t }) mem′
+      unfolding runBoard runMemory blit.engineBlitter blit.engineMemory
       as-blitter told t mem′ p q r =
           let held : (Blitter → Board) = λ x. record { ports = b .ports; blitter = x } in (
             p ∙ sym same-answer,
             (
               ap held q
-                  ∙ sym (kept-in held (blit.runAnswer (b .blitter) mem budget) (b .blitter) (runFor budget (begun (b .blitter) mem) .blitter))
+                  ∙ sym (kept-in held (blit.engineAnswer (b .blitter) mem budget) (b .blitter) (runFor budget (begun (b .blitter) mem) .blitter))
                   ∙ ap (λ (x : Told Counts). kept x b (held (runFor budget (begun (b .blitter) mem) .blitter))) (sym same-answer),
               r ∙ ap (λ (x : Told Counts). kept x mem (runFor budget (begun (b .blitter) mem) .mem)) (sym same-answer),
             ),

@@ -16,7 +16,7 @@ use Rattle.board.proofs.Sound.{Sound, ports-test, run-board-sound, run-
 -- a board's run gives what the blitter's run from x and m gives
 abbrev pub Same : Board → List ℕ → ℕ → Board → List ℕ → Type 0
 Same b mem n x m =
-    Gives b mem n (blit.runAnswer (x .blitter) m n) (record { ports = x .ports; blitter = blit.runBlitter (x .blitter) m n }) (blit.runMemory (x .blitter) m n)
+    Gives b mem n (blit.engineAnswer (x .blitter) m n) (record { ports = x .ports; blitter = blit.engineBlitter (x .blitter) m n }) (blit.engineMemory (x .blitter) m n)
 
 -- past the refusals 1 and 15, from its own
 pub run-is : (b : Board) (mem : List ℕ) (n : ℕ) → goodLength (length mem) ≡ true → Sound b → Same b mem n b mem
@@ -29,10 +29,10 @@ module _ (b : Board) (mem : List ℕ) (m n : ℕ) (good : goodLength (length mem
   first : Same b mem m b mem
   first = run-is b mem m good sound
 
-  second : Same (runBoard b mem m) (runMemory b mem m) n (record { ports = b .ports; blitter = blit.runBlitter (b .blitter) mem m }) (blit.runMemory (b .blitter) mem m)
+  second : Same (runBoard b mem m) (runMemory b mem m) n (record { ports = b .ports; blitter = blit.engineBlitter (b .blitter) mem m }) (blit.engineMemory (b .blitter) mem m)
   second =
       let then = run-is (runBoard b mem m) (runMemory b mem m) n (ap goodLength (run-board-length b mem m) ∙ good) (run-board-sound b mem m sound) in
-      subst (Same (runBoard b mem m) (runMemory b mem m) n (record { ports = b .ports; blitter = blit.runBlitter (b .blitter) mem m })) (sym (first .1 .1))
+      subst (Same (runBoard b mem m) (runMemory b mem m) n (record { ports = b .ports; blitter = blit.engineBlitter (b .blitter) mem m })) (sym (first .1 .1))
       (subst (λ (x : Board). Same (runBoard b mem m) (runMemory b mem m) n x (runMemory b mem m)) (sym (first .1 .0)) then)
 
   whole : Same b mem (m + n) b mem
