@@ -1,43 +1,47 @@
 #!/usr/bin/env python3
-"""make.py: writes the example plans beside it, and the plans that crates/planxdl_cases runs.
+"""make.py: writes the example plans (NAME.plan) from their texts (NAME.txt) beside it, and the plans that crates/planxdl_cases runs.
 
-Run it from anywhere; it writes the same bytes each time. A field that is not named has the value of the paper's own example: one line, overlay and map off,
-all numbers 0, a field of 8 by 1, width 1, overlay palette 1, playfield palette 0, priority 255."""
+    examples/make.py           writes them; the same bytes each time
+    examples/make.py --check   writes nothing, prints each file that is not what it would write, and ends with 1 where there is one
+    examples/make.py --help    prints this
+
+It is run from anywhere. A field that is not named has the value that examples/plan gives it."""
+import importlib.machinery
+import importlib.util
 import pathlib
+import sys
 
+HERE = pathlib.Path(__file__).resolve().parent
+CRATES = HERE.parent / "crates"
 OFF, TEXT, SR, HR, LR = range(5)
 
 
-def item(kind, body):
-    return len(body).to_bytes(2, "little") + kind.to_bytes(2, "little") + body
+def beside(name):
+    """a script that stands beside this one, as a module; nothing is left beside it"""
+    sys.dont_write_bytecode = True
+    loader = importlib.machinery.SourceFileLoader(name, str(HERE / name))
+    module = importlib.util.module_from_spec(importlib.util.spec_from_loader(name, loader))
+    loader.exec_module(module)
+    return module
 
 
-def full(lines=1, mode=OFF, address=0, step=0, hscroll=0, vscroll=0, font=0, map=0, mapaddress=0, mapstep=0,
-         maphscroll=0, mapvscroll=0, fieldwidth=8, fieldheight=1, width=1, palettes=1, priority=255):
-    return item(1, bytes([lines, mode]) + address.to_bytes(3, "little") + step.to_bytes(2, "little")
-                + bytes([hscroll, vscroll, font, map]) + mapaddress.to_bytes(3, "little") + mapstep.to_bytes(2, "little")
-                + bytes([maphscroll, mapvscroll, fieldwidth, fieldheight, width, palettes, priority]))
+text = beside("plan")
+
+
+def full(lines=1, mode=OFF, address=0, step=0, **words):
+    return text.item("full", lines=lines, mode=mode, address=address, step=step, **words)
 
 
 def running(lines=1, hscroll=0, vscroll=0, font=0, width=1, palettes=1, priority=255):
-    return item(2, bytes([lines, hscroll, vscroll, font, width, palettes, priority]))
+    return text.item("on", lines=lines, hscroll=hscroll, vscroll=vscroll, font=font, width=width, palettes=palettes, priority=priority)
 
 
-EXAMPLES = {
-    # 25 rows of 80 characters, font in the third bank of 2,048 bytes, 20 lines free above and below
-    "text_screen": full(20) + full(200, TEXT, 0x02000, 160, font=2) + full(20),
-    # a picture of 320 pixels a line; below it two rows of text that stand still
-    "picture_status": full(224, SR, 0x10000, 320) + full(16, TEXT, 0x02000, 160, font=2),
-    # one picture, whose middle band is shifted by 5 pixels and shown in overlay palette 2
-    "scrolled_band": full(80, SR, 0x10000, 320) + running(80, hscroll=5, palettes=2) + running(80),
-    # a high resolution picture under a map of fields 8 pixels wide and 8 lines high
-    "mapped_screen": full(240, HR, 0x20000, 320, map=1, mapaddress=0x08000, mapstep=160, fieldheight=8),
-}
+EXAMPLES = ["text_screen", "picture_status", "scrolled_band", "mapped_screen"]
 
 TOP = dict(lines=1, mode=LR, address=524287, step=4095, hscroll=7, vscroll=7, font=255, map=1, mapaddress=524287, mapstep=4095,
            maphscroll=31, mapvscroll=31, fieldwidth=32, fieldheight=32, width=2, palettes=15, priority=255)
 LOW = dict(width=0, palettes=0, priority=0)
-OVER = dict(lines=241, mode=5, address=524288, step=4096, hscroll=8, vscroll=8, map=2, mapaddress=524288, mapstep=4096,
+OVER = dict(lines=241, lines_255=255, mode=5, address=524288, step=4096, hscroll=8, vscroll=8, map=2, mapaddress=524288, mapstep=4096,
             maphscroll=32, mapvscroll=32, fieldwidth=33, fieldheight=33, width=3, palettes=16)
 UNDER = dict(lines=0, fieldwidth=7, fieldheight=0)
 RUNNING = ["hscroll", "vscroll", "font", "width", "palettes", "priority"]
@@ -85,23 +89,55 @@ CASES = {
     "lowest": full(**LOW) + running(**LOW),
 }
 for k, v in (OVER | {k + "_low": v for k, v in UNDER.items()}).items():
-    CASES["full_" + k] = full(**{**TOP, k.removesuffix("_low"): v})
+    CASES["full_" + k] = full(**{**TOP, k.removesuffix("_low").removesuffix("_255"): v})
 for k in ["lines"] + RUNNING:
     if k in OVER:
         CASES["running_" + k] = full() + running(**{k: OVER[k]})
 CASES["running_lines_low"] = full() + running(0)
 
 
+def read(path):
+    """the plan of a text; a text with a fault ends the work"""
+    reader = text.Reader(path.read_text(encoding="utf-8"))
+    if reader.faults:
+        sys.exit("\n".join(f"{path.name}: {fault}" for fault in reader.faults))
+    return reader.plan
+
+
+def files():
+    """each file that is made, and its bytes"""
+    examples = {name: read(HERE / (name + ".txt")) for name in EXAMPLES}
+    cases = CRATES / "planxdl_cases"
+    for name, plan in examples.items():
+        yield HERE / (name + ".plan"), plan
+    for name, plan in (CASES | examples).items():
+        yield cases / "data" / name, plan
+    yield cases / "args", "".join(name + "\n" for name in CASES | examples).encode()
+
+
+def check():
+    """what is not as it would be written; and plans of crates that have an example's name, but other bytes"""
+    wrong = [path for path, held in files() if not path.is_file() or path.read_bytes() != held]
+    for name in EXAMPLES:
+        wrong += [path for path in CRATES.glob(f"*/data/{name}.plan") if path.read_bytes() != read(HERE / (name + ".txt"))]
+    wrong += [path for path in HERE.glob("*.txt") if path.stem not in EXAMPLES] + [path for path in HERE.glob("*.plan") if path.stem not in EXAMPLES]
+    for path in wrong:
+        print(f"not as make.py writes it: {path.relative_to(HERE.parent)}")
+    return 1 if wrong else 0
+
+
 def main():
-    here = pathlib.Path(__file__).resolve().parent
-    for name, plan in EXAMPLES.items():
-        (here / (name + ".plan")).write_bytes(plan)
-    cases = here.parent / "crates" / "planxdl_cases"
-    (cases / "data").mkdir(exist_ok=True)
-    for name, plan in (CASES | EXAMPLES).items():
-        (cases / "data" / name).write_bytes(plan)
-    (cases / "args").write_text("".join(name + "\n" for name in CASES | EXAMPLES))
+    if sys.argv[1:] == ["--check"]:
+        return check()
+    if len(sys.argv) > 1:
+        asked = sys.argv[1] in ("-h", "--help")
+        print(__doc__, file=sys.stdout if asked else sys.stderr)
+        return 0 if asked else 2
+    for path, held in files():
+        path.parent.mkdir(exist_ok=True)
+        path.write_bytes(held)
+    return 0
 
 
 if __name__ == "__main__":
-    main()
+    sys.exit(main())

@@ -1,4 +1,4 @@
-//! With the feature `desk`: links the archive that `rt staticlib capi` writes, or the one in the folder that
+//! With the feature `desk`: links the archive that `tools/archive` writes, or the one in the folder that
 //! `TWIN_ARCHIVE` names.
 
 use std::{
@@ -15,7 +15,7 @@ fn main() {
     println!("cargo:rerun-if-env-changed=TWIN_ARCHIVE");
     let folder = match env::var_os("TWIN_ARCHIVE") {
         Some(named) => PathBuf::from(named),
-        None => Path::new(&here).join("../target/staticlib"),
+        None => Path::new(&here).join("../target/archive"),
     };
     let archive = folder.join("libcapi.a");
     println!("cargo:rerun-if-changed={}", archive.display());
