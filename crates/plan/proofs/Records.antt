@@ -9,11 +9,11 @@ use lib.Dec.{eqb}
 use lib.ListN.{length, getD, List·getD-append}
 use lib.Seq.{getD-append-add}
 use Rattle.laws.proofs.Choice.{by-cond}
+use Rattle.vram.specs.Memory.{Bytes}
 use Rattle.item.specs.Item.{soundItem}
 use Rattle.item.specs.declared.Item.{Item}
 use Rattle.item.specs.declared.Item.the-variants.{Full as full, Running as running}
 use Rattle.item.proofs.Ranges.{full-fits, running-fits}
-use Rattle.plan.specs.Rules.{Bytes}
 use Rattle.plan.specs.Xdl.{overlayBit, mapBit, resolutionBit, endBit, fullRecord, runningRecord, recordBytes, recordSize}
 
 pub length-record : (it : Item) (last : Bool) → length (recordBytes it last) ≡ recordSize it

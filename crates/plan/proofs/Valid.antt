@@ -9,13 +9,14 @@ use lib.ListN.{length, length-append}
 use borrow.Author.Tests.{eqb-true}
 use Rattle.laws.proofs.Choice.{by-cond}
 use Rattle.refusal.specs.declared.Refusal.the-variants.{NoBand}
+use Rattle.vram.specs.Memory.{Bytes}
 use Rattle.item.specs.Item.{number2, fullAt, runningAt, linesOf, bodyAt}
 use Rattle.item.specs.declared.Item.{Item}
 use Rattle.item.specs.declared.Item.the-variants.{Full as full, Running as running}
 use Rattle.item.proofs.Ranges.{some-line}
 use Rattle.item.proofs.Taken.{taken}
 use Rattle.plan.specs.Plan.{Parsed, good, bad, rest, parse, itemsOf}
-use Rattle.plan.specs.Rules.{Bytes, StartsFull, AllSound, linesIn}
+use Rattle.plan.specs.Rules.{StartsFull, AllSound, linesIn}
 use Rattle.plan.specs.Xdl.{isLast, recordBytes, bytesOf, xdlBytes}
 use Rattle.plan.specs.Compile.{AtMost}
 use Rattle.plan.proofs.Records.{length-record, size-le, bytes-append, Open, bytes-record}
