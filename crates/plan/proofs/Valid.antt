@@ -71,7 +71,7 @@ module _ (s : List ℕ) where
       taken s 0 0 0 it (u .next) (u .item) .fits .first refl
   starts-full [] e =
       let none : eqb 0 (length s) ≡ true = last-is s 0 0 0 [] zero-le zero-le (walk [] e) in
-      bad-good NoBand 0 [] (sym (parse-none s (sym (eqb-true 0 (length s) none))) ∙ e)
+      bad-good (sym (parse-none s (sym (eqb-true 0 (length s) none))) ∙ e)
 
 -- a list has at most 22 bytes for each line, so 5,280
 list-le : (l : List Item) → AllSound l → length (bytesOf l) ≤ 22 * linesIn l

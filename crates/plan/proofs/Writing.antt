@@ -56,7 +56,7 @@ module _ (s first out : List ℕ) (at to : ℕ) (w : Writing s first out at to) 
 
   -- the first pass refused none
   refused : {A : Type 0} (why : Refusal) → itemAt s at n total ≡ Bad why → A
-  refused why e = bad-good why n _ (sym (rest-bad s at n total lt (w .numbered) why e) ∙ w .well)
+  refused why e = bad-good (sym (rest-bad s at n total lt (w .numbered) why e) ∙ w .well)
 
   -- so this one reads what that took
   again : itemAt s at n total ≡ knownAt s at
