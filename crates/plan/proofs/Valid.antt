@@ -8,7 +8,6 @@ use lib.Dec.{eqb}
 use lib.ListN.{length, length-append}
 use borrow.Author.Tests.{eqb-true}
 use Rattle.laws.proofs.Choice.{by-cond}
-use Rattle.refusal.specs.declared.Refusal.the-variants.{NoBand}
 use Rattle.vram.specs.Memory.{Bytes}
 use Rattle.item.specs.Item.{number2, fullAt, runningAt, linesOf, bodyAt}
 use Rattle.item.specs.declared.Item.{Item}
