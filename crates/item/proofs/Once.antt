@@ -1,5 +1,5 @@
 -- Each contract of this crate admits one outcome only. Assumes nothing.
-use mathlib.Core.Path.{_≡_, sym, _∙_}
+use mathlib.Core.Path.{sym, _∙_}
 use Rattle.laws.proofs.Once.{OneAnswer}
 use Rattle.item.proofs.Told.{item-one}
 use Rattle.item.proofs.lines_of.Kinds as lines-of-kinds

@@ -9,7 +9,8 @@ use lib.ListN.{length}
 use borrow.Author.Tests.{le-leb, leb-true, eqb-true}
 use Rattle.refusal.specs.declared.Refusal.{Refusal}
 use Rattle.refusal.specs.declared.Refusal.the-variants.{PlanCut, Kind, Length, Field, First, Lines}
-use Rattle.item.specs.Item.{number2, soundItem, linesOf, isFull, bodySize, bodyAt, must, fitted, itemAt, knownAt}
+use Rattle.refusal.proofs.Sheet.{refused-done}
+use Rattle.item.specs.Item.{number2, soundItem, linesOf, isFull, bodySize, bodyAt, must, fitted, itemAt, knownAt, itemTold}
 use Rattle.item.specs.declared.Item.{Item}
 use Rattle.item.specs.declared.Read.{Read}
 use Rattle.item.specs.declared.Read.the-variants.{Is}
@@ -17,7 +18,7 @@ use Rattle.item.specs.declared.Read.the-variants.{Is}
 -- a chain that ends in an item passed its first test
 passed : (t : Bool) (why : Refusal) (rest : Read) (it : Item) (next : ℕ) → must t why rest ≡ Is it next → (t ≡ true) × (rest ≡ Is it next)
 passed true why rest it next e = (refl, e)
-passed false why rest it next e = absurd (let z : _≡_ {A = ℕ} 0 1 = cc in omega arith)
+passed false why rest it next e = refused-done (ap (itemTold 0) e)
 
 -- what is known of an item by itself, of the item at its place, and of its place
 pub record Fits (n total : ℕ) (it : Item) : Type 0 where

@@ -1,6 +1,6 @@
 -- Document 01, "Plans": the items of a plan and their refusals.
 use mathlib.Core.Bool.{Bool, true, false, cond, _&&_, _||_}
-use mathlib.Core.List.{List}
+use mathlib.Core.List.{List, [], _∷_}
 use Prim.Native.Nat.{ℕ, _+_, _*_, _-_}
 use lib.Dec.{eqb, ltb, leb}
 use lib.ListN.{length, getD}
@@ -57,43 +57,71 @@ runningAt s at =
       priority = getD s (at + 6) 0;
     }
 
--- the ranges of kind 1, in the paper's order; "Both addresses go to 524,287; font and priority are any byte"
-unfoldable pub soundFull : Full → Bool
-soundFull b =
-    leb 1 (b .lines)
-    && leb (b .lines) 240
-    && leb (b .mode) 4
-    && leb (b .address) 524287
-    && leb (b .step) 4095
-    && leb (b .hscroll) 7
-    && leb (b .vscroll) 7
-    && leb (b .map) 1
-    && leb (b .mapaddress) 524287
-    && leb (b .mapstep) 4095
-    && leb (b .maphscroll) 31
-    && leb (b .mapvscroll) 31
-    && leb 8 (b .fieldwidth)
-    && leb (b .fieldwidth) 32
-    && leb 1 (b .fieldheight)
-    && leb (b .fieldheight) 32
-    && leb (b .width) 2
-    && leb (b .palettes) 15
+-- a field and the two ends of its range, and that it is between them
+pub record Range : Type 0 where
+  pub value : ℕ
+  pub low : ℕ
+  pub high : ℕ
+
+abbrev pub range : ℕ → ℕ → ℕ → Range
+range value low high = record { value = value; low = low; high = high }
+
+abbrev pub inRange : Range → Bool
+inRange r = leb (r .low) (r .value) && leb (r .value) (r .high)
+
+abbrev pub allIn : List Range → Bool
+allIn [] = true
+allIn (r ∷ l) = inRange r && allIn l
+
+-- kind 1, in the paper's order: "lines 1..240; mode 0 off, 1 text, 2 SR, 3 HR, 4 LR; .. OVSTEP (2, to 4,095); hscroll, vscroll 0..7; .. map 0..1; ..
+-- map step (2, to 4,095); map hscroll, vscroll 0..31; field width 8..32; field height 1..32; width 0..2; palettes 0..15";
+-- "Both addresses go to 524,287; font and priority are any byte", so these two have no range here
+abbrev pub fullRanges : Full → List Range
+fullRanges b =
+    range (b .lines) 1 240
+    ∷ range (b .mode) 0 4
+    ∷ range (b .address) 0 524287
+    ∷ range (b .step) 0 4095
+    ∷ range (b .hscroll) 0 7
+    ∷ range (b .vscroll) 0 7
+    ∷ range (b .map) 0 1
+    ∷ range (b .mapaddress) 0 524287
+    ∷ range (b .mapstep) 0 4095
+    ∷ range (b .maphscroll) 0 31
+    ∷ range (b .mapvscroll) 0 31
+    ∷ range (b .fieldwidth) 8 32
+    ∷ range (b .fieldheight) 1 32
+    ∷ range (b .width) 0 2
+    ∷ range (b .palettes) 0 15
+    ∷ []
 
 -- kind 2: "same ranges"
-unfoldable pub soundRunning : Running → Bool
-soundRunning b =
-    leb 1 (b .lines)
-    && leb (b .lines) 240
-    && leb (b .hscroll) 7
-    && leb (b .vscroll) 7
-    && leb (b .width) 2
-    && leb (b .palettes) 15
+abbrev pub runningRanges : Running → List Range
+runningRanges b =
+    range (b .lines) 1 240
+    ∷ range (b .hscroll) 0 7
+    ∷ range (b .vscroll) 0 7
+    ∷ range (b .width) 0 2
+    ∷ range (b .palettes) 0 15
+    ∷ []
 
--- the same of either kind, and what else is asked of one
+-- an item is sound where each of its fields is within its range
+unfoldable pub soundFull : Full → Bool
+soundFull b = allIn (fullRanges b)
+
+unfoldable pub soundRunning : Running → Bool
+soundRunning b = allIn (runningRanges b)
+
+-- the same of either kind
+abbrev pub rangesOf : Item → List Range
+rangesOf (full b) = fullRanges b
+rangesOf (running b) = runningRanges b
+
 abbrev pub soundItem : Item → Bool
 soundItem (full b) = soundFull b
 soundItem (running b) = soundRunning b
 
+-- what else is asked of an item
 abbrev pub linesOf : Item → ℕ
 linesOf (full b) = b .lines
 linesOf (running b) = b .lines

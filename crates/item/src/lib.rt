@@ -69,7 +69,7 @@ fn number_3(plan: &[u8], at: usize) -> u32
     requires { ⌜ at + 3 ≤ length (now plan) ⌝ }
     ensures { λ r. ⌜ r ≡ number3 (now (plan .entry)) at ⌝ }
 {
-    plan[at] as u32 + 256 * (plan[at + 1] as u32) + 65536 * (plan[at + 2] as u32)
+    number_2(plan, at) as u32 + 65536 * (plan[at + 2] as u32)
 }
 
 // The 23 bytes of a full band's body.

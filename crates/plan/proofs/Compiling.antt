@@ -9,16 +9,13 @@ use borrow.Author.Tests.{le-leb, lt-leb, leb-true}
 use Rattle.refusal.specs.Sheet.{done}
 use Rattle.refusal.specs.declared.Refusal.{Refusal}
 use Rattle.refusal.specs.declared.Refusal.the-variants.{Room}
-use Rattle.refusal.proofs.Sheet.{passed}
+use Rattle.refusal.proofs.Sheet.{passed, refused-done}
 use Rattle.plan.specs.Plan.{Parsed, good, bad, parse, itemsOf}
 use Rattle.plan.specs.Xdl.{bytesOf, xdlBytes}
 use Rattle.plan.specs.Compile.{compileTold, checkedOf, fitting, compileAnswer, compileOutput}
 use Rattle.plan.specs.declared.Compiled.{Compiled}
 use Rattle.plan.specs.declared.Compiled.the-variants.{Done, Refused}
 use Rattle.plan.proofs.Valid.{xdl-at-most}
-
-done-refused : {A : Type 0} (b : ℕ) (why : Refusal) (n : ℕ) → Refused why n ≡ Done b → A
-done-refused b why n e = absurd (let z : _≡_ {A = ℕ} 0 1 = cc in omega arith)
 
 -- a call's two clauses
 abbrev Is : List ℕ → List ℕ → List ℕ → Compiled → Type 0
@@ -37,7 +34,7 @@ module _ (plan out : List ℕ) where
 
     checked : (p : Parsed) → checkedOf p ≡ Done b → (p ≡ good (itemsOf p)) × (length (bytesOf (itemsOf p)) ≡ b)
     checked (good l) c = (refl, cc)
-    checked (bad why n) c = done-refused b why n c
+    checked (bad why n) c = refused-done (ap compileTold c)
 
     -- the second pass may begin
     pub write-may-begin : b ≤ length out → (parse plan ≡ good (itemsOf (parse plan))) × (length (xdlBytes plan) ≤ length out)
@@ -56,7 +53,7 @@ taken-in plan room k = go (parse plan)
   where
     go :
         (p : Parsed) → fitting (compileTold (checkedOf p)) room ≡ done k → (p ≡ good (itemsOf p)) × ((length (bytesOf (itemsOf p)) ≡ k) × (k ≤ room))
-    go (bad why n) e = absurd (let z : _≡_ {A = ℕ} 0 1 = cc in omega arith)
+    go (bad why n) e = refused-done e
     go (good l) e =
         let b = passed (leb (length (bytesOf l)) room) 13 _ k e in
         let count : length (bytesOf l) ≡ k = cc (b .1) in

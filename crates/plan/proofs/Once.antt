@@ -1,10 +1,8 @@
 -- Each contract of this crate admits one outcome only. Assumes nothing.
-use mathlib.Core.Path.{_≡_, refl, sym, ap, ap₂, _∙_}
-use Prim.Native.Nat.{ℕ}
-use native.Mathlib.Omega.{arith}
+use mathlib.Core.Path.{_≡_, sym, ap, ap₂, _∙_}
 use denote.Ref.{now}
 use Rattle.laws.proofs.Once.{OneAnswer, OneExit}
-use Rattle.refusal.proofs.Sheet.{number-one}
+use Rattle.refusal.proofs.Sheet.{number-one, done-refused, refused-done}
 use Rattle.plan.specs.Compile.{compileTold}
 use Rattle.plan.specs.declared.Compiled.{Compiled}
 use Rattle.plan.specs.declared.Compiled.the-variants.{Done, Refused}
@@ -14,8 +12,8 @@ use Rattle.plan.proofs.compile.Reads as compile
 -- what is told means one answer
 compile-one : (x y : Compiled) → compileTold x ≡ compileTold y → x ≡ y
 compile-one (Done a) (Done b) e = ap Done (cc)
-compile-one (Done a) (Refused w n) e = absurd (let z : _≡_ {A = ℕ} 0 1 = cc in omega arith)
-compile-one (Refused v m) (Done b) e = absurd (let z : _≡_ {A = ℕ} 0 1 = cc in omega arith)
+compile-one (Done a) (Refused w n) e = done-refused e
+compile-one (Refused v m) (Done b) e = refused-done e
 compile-one (Refused v m) (Refused w n) e = ap₂ Refused (number-one v w (cc)) (cc)
 
 compile-once : OneAnswer 2 compile-kinds.ps compile-kinds.r compile.Post

@@ -9,11 +9,11 @@ use lib.Dec.{eqb}
 use lib.ListN.{length, getD, List·getD-append}
 use lib.Seq.{getD-append-add}
 use Rattle.laws.proofs.Choice.{by-cond}
+use Rattle.vram.specs.Memory.{Bytes}
 use Rattle.item.specs.Item.{soundItem}
 use Rattle.item.specs.declared.Item.{Item}
 use Rattle.item.specs.declared.Item.the-variants.{Full as full, Running as running}
 use Rattle.item.proofs.Ranges.{full-fits, running-fits}
-use Rattle.plan.specs.Rules.{Bytes}
 use Rattle.plan.specs.Xdl.{overlayBit, mapBit, resolutionBit, endBit, fullRecord, runningRecord, recordBytes, recordSize}
 
 pub length-record : (it : Item) (last : Bool) → length (recordBytes it last) ≡ recordSize it
@@ -30,14 +30,15 @@ size-some (full b) = omega arith
 size-some (running b) = omega arith
 
 -- bytes, one by one
-abbrev Each : List ℕ → Type 0
-Each [] = Unit
-Each (x ∷ xs) = (x < 256) × Each xs
+infixr 30 _then_
+data Each : List ℕ → Type 0 where
+  none : Each []
+  _then_ : {x : ℕ} {xs : List ℕ} → x < 256 → Each xs → Each (x ∷ xs)
 
-bytes-each : (xs : List ℕ) → Each xs → Bytes xs
-bytes-each [] e i = omega arith
-bytes-each (x ∷ xs) e zero = e .0
-bytes-each (x ∷ xs) e (suc i) = bytes-each xs (e .1) i
+bytes-each : {xs : List ℕ} → Each xs → Bytes xs
+bytes-each none i = omega arith
+bytes-each (h then e) zero = h
+bytes-each (h then e) (suc i) = bytes-each e i
 
 pub bytes-append : (xs ys : List ℕ) → Bytes xs → Bytes ys → Bytes (xs ++ ys)
 bytes-append xs ys f g i = go (decLt i (length xs))
@@ -76,91 +77,39 @@ pub bytes-record : (it : Item) (last : Bool) → soundItem it ≡ true → Open 
 unfolding fullRecord runningRecord
 bytes-record (full b) last s o =
     let f = full-fits b s in
-    bytes-each (fullRecord b last) (
-      omega (arith, overlay-le (b .mode), map-le (b .map)),
-      (
-        omega (arith, resolution-le (b .mode), end-le last),
-        (
-          omega (arith, f .lines),
-          (
-            low _,
-            (
-              low _,
-              (
-                low _,
-                (
-                  low _,
-                  (
-                    low _,
-                    (
-                      omega (arith, f .hscroll),
-                      (
-                        omega (arith, f .vscroll),
-                        (
-                          o .0,
-                          (
-                            low _,
-                            (
-                              low _,
-                              (
-                                low _,
-                                (
-                                  low _,
-                                  (
-                                    low _,
-                                    (
-                                      omega (arith, f .maphscroll),
-                                      (
-                                        omega (arith, f .mapvscroll),
-                                        (
-                                          omega (arith, f .wide),
-                                          (
-                                            omega (arith, f .high),
-                                            (
-                                              omega (arith, f .width, f .palettes),
-                                              (o .1, tt),
-                                            ),
-                                          ),
-                                        ),
-                                      ),
-                                    ),
-                                  ),
-                                ),
-                              ),
-                            ),
-                          ),
-                        ),
-                      ),
-                    ),
-                  ),
-                ),
-              ),
-            ),
-          ),
-        ),
-      ),
-    )
+    bytes-each
+    (omega (arith, overlay-le (b .mode), map-le (b .map))
+    then omega (arith, resolution-le (b .mode), end-le last)
+    then omega (arith, f .lines)
+    then low _
+    then low _
+    then low _
+    then low _
+    then low _
+    then omega (arith, f .hscroll)
+    then omega (arith, f .vscroll)
+    then o .0
+    then low _
+    then low _
+    then low _
+    then low _
+    then low _
+    then omega (arith, f .maphscroll)
+    then omega (arith, f .mapvscroll)
+    then omega (arith, f .wide)
+    then omega (arith, f .high)
+    then omega (arith, f .width, f .palettes)
+    then o .1
+    then none)
 bytes-record (running b) last s o =
     let f = running-fits b s in
-    bytes-each (runningRecord b last) (
-      omega arith,
-      (
-        omega (arith, end-le last),
-        (
-          omega (arith, f .lines),
-          (
-            omega (arith, f .hscroll),
-            (
-              omega (arith, f .vscroll),
-              (
-                o .0,
-                (
-                  omega (arith, f .width, f .palettes),
-                  (o .1, tt),
-                ),
-              ),
-            ),
-          ),
-        ),
-      ),
-    )
+    bytes-each
+    (omega arith
+    then omega (arith, end-le last)
+    then omega (arith, f .lines)
+    then omega (arith, f .hscroll)
+    then omega (arith, f .vscroll)
+    then o .0
+    then omega (arith, f .width, f .palettes)
+    then o .1
+    then none)

@@ -11,6 +11,7 @@ use borrow.Author.Tests.{lt-ltb, le-ltb, lt-leb}
 use Rattle.refusal.specs.Sheet.{Told, done, refused, unless}
 use Rattle.refusal.specs.declared.Refusal.{Refusal}
 use Rattle.refusal.specs.declared.Refusal.the-variants.{NoBand}
+use Rattle.refusal.proofs.Sheet.{done-refused}
 use Rattle.item.specs.Item.{linesOf, itemAt}
 use Rattle.item.specs.declared.Item.{Item}
 use Rattle.item.specs.declared.Read.{Read}
@@ -25,7 +26,7 @@ use Rattle.plan.proofs.Valid.{starts-full}
 use Rattle.plan.proofs.Walk.{bad-good}
 
 bad-with : (it : Item) (p : Parsed) (why : Refusal) (k : ℕ) → with it p ≡ bad why k → p ≡ bad why k
-bad-with it (good l) why k e = bad-good why k (it ∷ l) (sym e)
+bad-with it (good l) why k e = bad-good (sym e)
 bad-with it (bad w n) why k e = e
 
 -- each item before it has a line, and all have 240 at most
@@ -50,11 +51,11 @@ module _ (s : List ℕ) (why : Refusal) (k : ℕ) where
   unfolding parseFrom
   from-end f at n total ge h l e =
       let z : good [] ≡ bad why k = simp (le-ltb at (length s) ge) at e in
-      bad-good why k [] (sym z)
+      bad-good (sym z)
 
   from-small : (f at n total : ℕ) → Small f at n total
   unfolding parseFrom
-  from-small zero at n total h l e = bad-good why k [] (sym e)
+  from-small zero at n total h l e = bad-good (sym e)
   from-small (suc f) at n total h l e = go (decLt at (length s)) (λ next m t. from-small f next m t) h l e
     where
       go : Dec (at < length s) → ((next m t : ℕ) → Small f next m t) → Small (suc f) at n total
@@ -84,7 +85,7 @@ unfolding compileAnswer
 refused-item plan room k n = go (parse plan) refl
   where
     chain : (b : Bool) (m : ℕ) → unless b 13 (done m) ≡ refused k n → n ≤ 240
-    chain true m e = absurd (let z : _≡_ {A = ℕ} 0 1 = cc e in omega arith)
+    chain true m e = done-refused e
     chain false m e = let same : 0 ≡ n = cc e in omega arith
 
     go : (p : Parsed) → parse plan ≡ p → Compiles p room ≡ refused k n → n ≤ 240

@@ -10,6 +10,7 @@ use lib.Dec.{eqb, ltb}
 use lib.ListN.{length, getD, take, drop, length-append, length-drop, take-append-drop, drop-of-length-le}
 use lib.Seq.{getD-drop, drop-drop, drop-cons, drop-at}
 use borrow.Author.Tests.{lt-ltb, le-leb, eq-eqb, eqb-true}
+use Rattle.vram.specs.Memory.{Bytes}
 use Rattle.item.specs.Item.{number2, fullAt, runningAt, soundItem, linesOf, isFull, bodySize, bodyAt, fitted, itemAt}
 use Rattle.item.specs.declared.Full.{Full}
 use Rattle.item.specs.declared.Running.{Running}
@@ -18,7 +19,7 @@ use Rattle.item.specs.declared.Item.the-variants.{Full as full, Running as runn
 use Rattle.item.specs.declared.Read.the-variants.{Is}
 use Rattle.item.proofs.Taken.{taken}
 use Rattle.plan.specs.Plan.{good, with, rest}
-use Rattle.plan.specs.Rules.{Bytes, fullBytes, runningBytes, itemBytes, planBytes, StartsFull, AllSound, linesIn, RulesSuffice, RulesNeeded}
+use Rattle.plan.specs.Rules.{fullBytes, runningBytes, itemBytes, planBytes, StartsFull, AllSound, linesIn, RulesSuffice, RulesNeeded}
 use Rattle.plan.proofs.Valid.{all-sound, all-lines, starts-full}
 use Rattle.plan.proofs.Walk.{rest-end, rest-item, uncons, last-is, parse-rest, parse-taken}
 

@@ -8,14 +8,14 @@ use lib.Dec.{eqb}
 use lib.ListN.{length, length-append}
 use borrow.Author.Tests.{eqb-true}
 use Rattle.laws.proofs.Choice.{by-cond}
-use Rattle.refusal.specs.declared.Refusal.the-variants.{NoBand}
+use Rattle.vram.specs.Memory.{Bytes}
 use Rattle.item.specs.Item.{number2, fullAt, runningAt, linesOf, bodyAt}
 use Rattle.item.specs.declared.Item.{Item}
 use Rattle.item.specs.declared.Item.the-variants.{Full as full, Running as running}
 use Rattle.item.proofs.Ranges.{some-line}
 use Rattle.item.proofs.Taken.{taken}
 use Rattle.plan.specs.Plan.{Parsed, good, bad, rest, parse, itemsOf}
-use Rattle.plan.specs.Rules.{Bytes, StartsFull, AllSound, linesIn}
+use Rattle.plan.specs.Rules.{StartsFull, AllSound, linesIn}
 use Rattle.plan.specs.Xdl.{isLast, recordBytes, bytesOf, xdlBytes}
 use Rattle.plan.specs.Compile.{AtMost}
 use Rattle.plan.proofs.Records.{length-record, size-le, bytes-append, Open, bytes-record}
@@ -70,7 +70,7 @@ module _ (s : List ℕ) where
       taken s 0 0 0 it (u .next) (u .item) .fits .first refl
   starts-full [] e =
       let none : eqb 0 (length s) ≡ true = last-is s 0 0 0 [] zero-le zero-le (walk [] e) in
-      bad-good NoBand 0 [] (sym (parse-none s (sym (eqb-true 0 (length s) none))) ∙ e)
+      bad-good (sym (parse-none s (sym (eqb-true 0 (length s) none))) ∙ e)
 
 -- a list has at most 22 bytes for each line, so 5,280
 list-le : (l : List Item) → AllSound l → length (bytesOf l) ≤ 22 * linesIn l

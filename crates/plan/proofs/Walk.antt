@@ -1,6 +1,6 @@
 -- The walk over a plan's items, taken one item at a time. Assumes nothing.
 use mathlib.Core.Path.{_≡_, refl, sym, ap, _∙_}
-use mathlib.Core.Bool.{Bool, true, false}
+use mathlib.Core.Bool.{true}
 use mathlib.Core.List.{List, [], _∷_}
 use Prim.Native.Nat.{ℕ, zero, suc, _+_, _-_, _≤_, _<_}
 use native.Mathlib.Decide.{decLt}
@@ -17,8 +17,12 @@ use Rattle.item.specs.declared.Read.the-variants.{Is, Bad}
 use Rattle.plan.specs.Plan.{Parsed, good, bad, with, parseFrom, rest, parse, itemsOf}
 use Rattle.plan.specs.Xdl.{isLast, bytesOf, xdlBytes}
 
-pub bad-good : {A : Type 0} (why : Refusal) (n : ℕ) (l : List Item) → bad why n ≡ good l → A
-bad-good why n l e = absurd (let z : _≡_ {A = ℕ} 0 1 = cc in omega arith)
+-- a plan that is refused is not taken, and one with no items has none
+pub bad-good : {A : Type 0} {why : Refusal} {n : ℕ} {l : List Item} → bad why n ≡ good l → A
+bad-good e = absurd (let z : _≡_ {A = ℕ} 0 1 = cc in omega arith)
+
+none-some : {A : Type 0} {it : Item} {l : List Item} → [] ≡ it ∷ l → A
+none-some e = absurd (let z : _≡_ {A = ℕ} 0 1 = cc in omega arith)
 
 -- at the end of the plan
 pub rest-end : (s : List ℕ) (at n total : ℕ) → length s ≤ at → rest s at n total ≡ good []
@@ -52,7 +56,7 @@ pub record TailGood (it : Item) (p : Parsed) (l : List Item) : Type 0 where
 
 pub tail-good : (it : Item) (p : Parsed) (l : List Item) → with it p ≡ good l → TailGood it p l
 tail-good it (good m) l e = record { tail = refl; items = cc }
-tail-good it (bad why n) l e = bad-good why n l e
+tail-good it (bad why n) l e = bad-good e
 
 -- the walk taken apart at its first item
 pub record Uncons (s : List ℕ) (at n total : ℕ) (it : Item) (l : List Item) : Type 0 where
@@ -75,28 +79,23 @@ uncons s at n total it l few e = go (decLt at (length s))
           item = i ∙ ap (λ (x : Item). Is x next) same;
           more = ap (λ (x : Item). rest s next (n + 1) (total + linesOf x)) (sym same) ∙ (t .tail ∙ ap good tail);
         }
-    some (Bad why) lt i = bad-good why n _ (sym (rest-bad s at n total lt few why i) ∙ e)
+    some (Bad why) lt i = bad-good (sym (rest-bad s at n total lt few why i) ∙ e)
 
     go : Dec (at < length s) → Uncons s at n total it l
     go (yes lt) = some (itemAt s at n total) lt refl
-    go (no nlt) =
-        let z : good [] ≡ good (it ∷ l) = sym (rest-end s at n total (omega arith)) ∙ e in
-        absurd (let y : _≡_ {A = ℕ} 0 1 = cc in omega arith)
+    go (no nlt) = none-some (ap itemsOf (sym (rest-end s at n total (omega arith)) ∙ e))
 
 -- no items are left exactly where no bytes are
 pub last-is : (s : List ℕ) (at n total : ℕ) (l : List Item) → n ≤ at → at ≤ length s → rest s at n total ≡ good l → eqb at (length s) ≡ isLast l
 last-is s at n total (it ∷ l) few h e = ne-eqb at (length s) (λ end.
-    absurd
-    (let z : good (it ∷ l) ≡ good [] = sym e ∙ rest-end s at n total (omega arith) in
-    let y : _≡_ {A = ℕ} 0 1 = cc in
-    omega arith))
+    none-some (ap itemsOf (sym (rest-end s at n total (omega arith)) ∙ e)))
 last-is s at n total [] few h e = go (decLt at (length s))
   where
     some : (r : Read) → at < length s → itemAt s at n total ≡ r → eqb at (length s) ≡ true
     some (Is it next) lt i =
         let t = tail-good it (rest s next (n + 1) (total + linesOf it)) [] (sym (rest-item s at n total lt few it next i) ∙ e) in
-        absurd (let y : _≡_ {A = ℕ} 0 1 = cc (t .items) in omega arith)
-    some (Bad why) lt i = bad-good why n [] (sym (rest-bad s at n total lt few why i) ∙ e)
+        none-some (t .items)
+    some (Bad why) lt i = bad-good (sym (rest-bad s at n total lt few why i) ∙ e)
 
     go : Dec (at < length s) → eqb at (length s) ≡ true
     go (yes lt) = some (itemAt s at n total) lt refl
@@ -113,7 +112,7 @@ parse-rest s h = simp (ne-eqb _ _ h)
 
 -- a plan that is taken is its walk
 pub parse-taken : (s : List ℕ) (l : List Item) → parse s ≡ good l → parse s ≡ rest s 0 0 0
-parse-taken s l e = parse-rest s (λ (h : length s ≡ 0). bad-good NoBand 0 l (sym (parse-none s h) ∙ e))
+parse-taken s l e = parse-rest s (λ (h : length s ≡ 0). bad-good (sym (parse-none s h) ∙ e))
 
 pub xdl-rest : (s : List ℕ) → parse s ≡ rest s 0 0 0 → xdlBytes s ≡ bytesOf (itemsOf (rest s 0 0 0))
 unfolding xdlBytes

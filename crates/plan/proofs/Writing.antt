@@ -1,7 +1,7 @@
 -- The second pass: what is written so far, with the records to come, is the whole list; past it the output is as it was. Assumes nothing.
 use mathlib.Core.Path.{_≡_, refl, sym, ap, ap₂, _∙_, subst}
 use mathlib.Core.Bool.{Bool, true}
-use mathlib.Core.List.{List, [], _∷_, _++_, append-assoc, append-nil}
+use mathlib.Core.List.{List, [], _++_, append-assoc, append-nil}
 use Prim.Native.Nat.{ℕ, _+_, _-_, _≤_, _<_, zero-le}
 use native.Mathlib.Omega.{arith}
 use lib.Dec.{eqb}
@@ -15,8 +15,8 @@ use Rattle.item.specs.declared.Item.{Item}
 use Rattle.item.specs.declared.Read.{Read}
 use Rattle.item.specs.declared.Read.the-variants.{Is, Bad}
 use Rattle.item.proofs.Taken.{Taken, taken, taken-again}
-use Rattle.plan.specs.Plan.{Parsed, good, bad, with, rest, parse, itemsOf}
-use Rattle.plan.specs.Xdl.{recordBytes, recordSize, isLast, bytesOf, xdlBytes}
+use Rattle.plan.specs.Plan.{Parsed, good, rest, parse, itemsOf}
+use Rattle.plan.specs.Xdl.{recordBytes, recordSize, bytesOf, xdlBytes}
 use Rattle.plan.proofs.Walk.{bad-good, rest-end, rest-bad, rest-item, TailGood, tail-good, last-is, parse-taken, xdl-rest}
 use Rattle.plan.proofs.Records.{length-record}
 
@@ -56,7 +56,7 @@ module _ (s first out : List ℕ) (at to : ℕ) (w : Writing s first out at to) 
 
   -- the first pass refused none
   refused : {A : Type 0} (why : Refusal) → itemAt s at n total ≡ Bad why → A
-  refused why e = bad-good why n _ (sym (rest-bad s at n total lt (w .numbered) why e) ∙ w .well)
+  refused why e = bad-good (sym (rest-bad s at n total lt (w .numbered) why e) ∙ w .well)
 
   -- so this one reads what that took
   again : itemAt s at n total ≡ knownAt s at

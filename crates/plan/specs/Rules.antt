@@ -2,18 +2,14 @@
 use mathlib.Core.Path.{_≡_}
 use mathlib.Core.Bool.{true}
 use mathlib.Core.List.{List, [], _∷_, _++_}
-use Prim.Native.Nat.{ℕ, _+_, _/_, _%_, _≤_, _<_}
-use lib.ListN.{getD}
+use Prim.Native.Nat.{ℕ, _+_, _/_, _%_, _≤_}
+use Rattle.vram.specs.Memory.{Bytes}
 use Rattle.item.specs.Item.{soundItem, linesOf, isFull}
 use Rattle.item.specs.declared.Full.{Full}
 use Rattle.item.specs.declared.Running.{Running}
 use Rattle.item.specs.declared.Item.{Item}
 use Rattle.item.specs.declared.Item.the-variants.{Full as full, Running as running}
 use Rattle.plan.specs.Plan.{good, parse}
-
--- a byte is below 256
-abbrev pub Bytes : List ℕ → Type 0
-Bytes s = (i : ℕ) → getD s i 0 < 256
 
 -- "Items, little-endian: body length (2 bytes), kind (2), body"; "Kind 1, full band, 23 bytes"
 unfoldable pub fullBytes : Full → List ℕ

@@ -9,7 +9,7 @@ use lib.ListN.{length}
 use Rattle.refusal.specs.Sheet.{done}
 use Rattle.settings.specs.Settings.{advanced, off}
 use Rattle.settings.specs.declared.Settings.{Settings}
-use Rattle.vram.specs.Memory.{goodLength}
+use Rattle.vram.specs.Memory.{Bytes, goodLength}
 use Rattle.record.specs.Record.{recordOf}
 use Rattle.record.specs.declared.Reader.{Reader}
 use Rattle.frame.specs.Frame.{soundFrame, readerOf, withReader, frameAt, fetched, nextFrame, lineAt}
@@ -17,7 +17,6 @@ use Rattle.frame.specs.declared.Frame.{Frame}
 use Rattle.frame.proofs.Cases.{shown-on, next-on}
 use Rattle.frame.proofs.Lines.{next-line-is, line-first, line-more}
 use Rattle.frame.proofs.Sound.{sound-next}
-use Rattle.plan.specs.Rules.{Bytes}
 
 -- the same reader with other settings and another repeat
 abbrev pub readerAt : Settings → ℕ → Reader → Reader

@@ -20,7 +20,7 @@ mul-t8 : tie.Need-mul-t8
 mul-t8 c = omega (arith, running-fits _ (c .before .before .before .before .pre .1) .palettes)
 
 add-t9 : tie.Need-add-t9
-add-t9 c = omega (arith, running-fits _ (c .before .before .before .before .before .pre .1) .palettes, running-fits _ (c .before .before .before .before .before .pre .1) .width)
+add-t9 c = let f = running-fits _ (c .before .before .before .before .before .pre .1) in omega (arith, f .palettes, f .width)
 
 slice-aggregate-copy : tie.Need-slice-aggregate-copy
 slice-aggregate-copy c = search needs
