@@ -1,5 +1,7 @@
 // When a list ends (document 02, A10). The largest block, in nine runs, is in the program itself.
+use super::blitlist;
 use board::Board;
+use boardtext::show;
 
 // A fill of 3 by 2 bytes at 2000h, zoomed 2 by 3, and one of one byte at 3000h: 37 ticks and 2.
 fn two_fills(mem: &mut [u8]) {

@@ -1,9 +1,14 @@
 // The blitter at its edges: each line says what ran, what was reported and how the board stands; then cells of memory.
+mod blitlist;
+mod block_cases;
+mod flat;
 mod list_ends;
 mod pointers;
+mod start_cases;
 
 use block::Block;
 use board::Board;
+use boardtext::show;
 
 // A run where the board is not used again.
 fn go(name: &[u8], board: Board, mem: &mut [u8], budget: u32) {

@@ -1,5 +1,7 @@
 // A pointer drawn in mode 5 and taken away by drawing it again (document 02, A13): where that is allowed, and where it is not.
+use super::blitlist;
 use block::Block;
+use boardtext::show;
 
 fn compare(one: &[u8], two: &[u8]) {
     if crate::same(one, two) {

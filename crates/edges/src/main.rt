@@ -2,6 +2,7 @@
 // into it would print something else; each bit of a collision mask at the ends of what it stands for; a block of
 // bytes FF; and plans.
 mod collisions;
+mod plan_cases;
 
 use board::Board;
 use engine::RunReport;

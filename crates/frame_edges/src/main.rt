@@ -1,6 +1,9 @@
 // The display list at its edges: lists, frames that no list gives, and boards. A case names itself; under it stands what the
 // frame's next line tells.
+mod list_cases;
+
 use board::Board;
+use boardtext::lines;
 use frame::Frame;
 use frame::FrameStart;
 use settings::Settings;
@@ -30,7 +33,7 @@ fn picture() -> Frame {
 fn ask(title: &[u8], frame: Frame) {
     let mem = [0u8; 16384];
     print::text(title);
-    linetext::ask(frame, &mem);
+    lines::ask(frame, &mem);
 }
 
 // Frames that no frame start gives: sound, so they are answered.
@@ -55,7 +58,7 @@ fn states() {
     f.repeat = 2;
     print::text(b"Ended, with two lines more:\n");
     let mem = [0u8; 16384];
-    linetext::runs(f, &mem, 4);
+    lines::runs(f, &mem, 4);
 }
 
 // Around the last line.
@@ -185,7 +188,7 @@ fn unsound_look() {
 fn ask_first(title: &[u8], frame: Frame, mem: &[u8], n: usize) {
     if n <= mem.len() {
         print::text(title);
-        linetext::ask(frame, &mem[0..n]);
+        lines::ask(frame, &mem[0..n]);
     }
 }
 

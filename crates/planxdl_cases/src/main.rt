@@ -1,4 +1,4 @@
 // Runs planxdl's work on each file that an argument names: each is a case of its input.
 fn main() {
-    planfiles::each(false);
+    plantext::files::list_files(b": ");
 }

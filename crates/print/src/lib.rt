@@ -48,11 +48,16 @@ pub fn address(a: u32) {
     io::write_all(1, &five);
 }
 
-// A refusal as the desk prints it, in a line.
+// A refusal as the desk prints it, in a line, to a file descriptor.
+pub fn refused_to(fd: i32, why: Refusal, item: u32) {
+    io::write_all(fd, b"refused ");
+    io::print_decimal(fd, why.number() as u64);
+    io::write_all(fd, b" item ");
+    io::print_decimal(fd, item as u64);
+    io::write_all(fd, b"\n");
+}
+
+// On standard output.
 pub fn refused(why: Refusal, item: u32) {
-    text(b"refused ");
-    number(why.number() as u64);
-    text(b" item ");
-    number(item as u64);
-    text(b"\n");
+    refused_to(1, why, item);
 }

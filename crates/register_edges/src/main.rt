@@ -2,6 +2,7 @@
 use block::Block;
 use board::Board;
 use board::ReadReport;
+use boardtext::show;
 use step::Side;
 
 // What a read gives.

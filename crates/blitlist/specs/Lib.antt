@@ -1,2 +1,0 @@
--- A blitter list that a program lays and starts.
-pub mod Laid

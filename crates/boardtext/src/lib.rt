@@ -1,0 +1,4 @@
+// What the programs print of a board and of its frame.
+pub mod frames;
+pub mod lines;
+pub mod show;

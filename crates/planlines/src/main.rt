@@ -1,0 +1,128 @@
+// What the lines of a plan show. The plan is compiled, its list installed at an address, pointed at and switched on; the lines of
+// its frame are printed, those that are all alike as one. With --bands each plan that an argument names is installed over the top
+// of memory, and the lines are printed where a band begins or ends, and each ninth: so the plans beside this program are shown,
+// and compared with what is worked out from the plan alone. Beside the example plans there are, with F a full band and R a
+// running-on item:
+//   below.plan          F(3, SR, 1000h, step 140h) R(2, hscroll 5, palettes 6): below the plan what is left is held
+//   row_runs_on.plan    F(3, text, 1000h, step A0h) R(6, vscroll 5): the row of text runs on
+//   field_runs_on.plan  F(3, text, 7FFFFh, step FFFh, map at 7FFF0h, step 10h, fields 17 by 5) R(9) F(12, LR, map) R(1): the field runs on
+mod address;
+
+use boardtext::lines;
+use plantext::files;
+use refusal::Outcome;
+
+// Where a list's first record goes over the top of memory.
+const TOP: u32 = 524280;
+
+fn installed(mem: &mut [u8], list: &[u8], at: u32, bands: bool) {
+    let r = vram::install(mem, list, at);
+    match r {
+        Outcome::Refused(why) => print::refused(why, 0),
+        Outcome::Done => {
+            if bands {
+                lines::show_bands(mem, at);
+            } else {
+                lines::show_joined(mem, at);
+            }
+        }
+    }
+}
+
+// Memory is not 0, so that a record read past the list would show.
+fn shown(plan: &[u8], at: u32, bands: bool) {
+    let mut list = [0u8; 5280];
+    let n = plantext::compiled(plan, &mut list, 1);
+    if n == 0 {
+        return;
+    }
+    let mut mem = [0xEEu8; 16384];
+    installed(&mut mem, &list[..n], at, bands);
+}
+
+// The plan in the file that an argument names.
+fn file(i: usize, at: u32, bands: bool) {
+    let mut plan = [0u8; 8192];
+    let got = files::read_plan(i, &mut plan);
+    if got.failed {
+        return;
+    }
+    if bands {
+        files::print_name(i, b"\n");
+    }
+    let n = got.bytes;
+    shown(&plan[..n], at, bands);
+}
+
+// Every plan that an argument behind --bands names.
+fn bands(arguments: usize) {
+    for i in 2..arguments {
+        file(i, TOP, true);
+    }
+}
+
+fn usage(fd: i32) {
+    io::write_all(
+        fd,
+        b"usage: planlines FILE [ADDRESS]\n       planlines --bands FILE..\n",
+    );
+}
+
+fn help() {
+    usage(1);
+    io::write_all(
+        1,
+        b"Installs the display list of FILE's plan at ADDRESS and switches it on, and prints\n",
+    );
+    io::write_all(
+        1,
+        b"the settings of each of the 240 lines, lines that are alike as one. ADDRESS is 0\n",
+    );
+    io::write_all(
+        1,
+        b"to 524287, or 0x0 to 0x7FFFF, and 0 where it is not given. A plan that is refused\n",
+    );
+    io::write_all(
+        1,
+        b"prints the number of the refusal and the item (docs/HELP.md).\n",
+    );
+    io::write_all(
+        1,
+        b"--bands installs each list over the top of memory, at 524280, and prints the lines\n",
+    );
+    io::write_all(1, b"where a band begins or ends, and each ninth.\n");
+    io::write_all(
+        1,
+        b"Beside it: planxdl prints the list; desk-run, at the top of the repository, builds\n",
+    );
+    io::write_all(1, b"a program and runs it: ./desk-run planxdl --help\n");
+}
+
+fn lines_at(at: u32) {
+    if at < address::NONE {
+        file(1, at, false);
+    } else {
+        usage(2);
+    }
+}
+
+fn joined(arguments: usize) {
+    match arguments {
+        2 => file(1, 0, false),
+        3 => lines_at(address::of(2)),
+        _ => usage(2),
+    }
+}
+
+fn main() {
+    let arguments = os::arg_count();
+    if files::is(1, b"--help") {
+        help();
+    } else if files::is(1, b"--bands") {
+        bands(arguments);
+    } else if files::is_option(1) {
+        usage(2);
+    } else {
+        joined(arguments);
+    }
+}
