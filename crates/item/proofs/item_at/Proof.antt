@@ -10,22 +10,24 @@ use Rattle.item.specs.Item.{number2, bodySize, bodyAt, itemAt, itemTold}
 use Rattle.item.proofs.item_at.Statement.{statement}
 use Rattle.item.proofs.item_at.Tie as tie
 
+-- the kind that the plan says, and what each test that is passed says of the plan
+abbrev kind : tie.Start → ℕ
+kind b = number2 (now (b .args .plan)) (b .args .at + 2)
+
 header : (c : tie.Else1) → leb 4 (c .before .left-at .result) ≡ true
 header c = le-leb _ _ (c .if1 .left)
 
-known : (c : tie.Else2) → let k = number2 (now (c .before .before .before .before .before .args .plan)) (c .before .before .before .before .before .args .at + 2) in (eqb k 1 || eqb k 2) ≡ true
+known : (c : tie.Else2) → let k = kind (c .before .before .before .before .before) in (eqb k 1 || eqb k 2) ≡ true
 known c = subst (λ (k : ℕ). (eqb k 1 || eqb k 2) ≡ true) (c .before .number-2 .ensures) (not-false _ (c .if2 .left))
 
-sized : (c : tie.After-body-size) → c .body-size .result ≡ bodySize (number2 (now (c .before .before .before .before .before .before .args .plan)) (c .before .before .before .before .before .before .args .at + 2))
+sized : (c : tie.After-body-size) → c .body-size .result ≡ bodySize (kind (c .before .before .before .before .before .before))
 sized c = c .body-size .ensures ∙ ap bodySize (c .before .before .number-2 .ensures)
 
-exact : (c : tie.Else3) → let b = c .before .before .before .before .before .before .before .before .args in eqb (number2 (now (b .plan)) (b .at)) (bodySize (number2 (now (b .plan)) (b .at + 2))) ≡ true
+exact : (c : tie.Else3) → let b = c .before .before .before .before .before .before .before .before in eqb (number2 (now (b .args .plan)) (b .args .at)) (bodySize (kind b)) ≡ true
 exact c = eq-eqb _ _ (sym (c .before .number-22 .ensures) ∙ (c .if3 .left ∙ sized (c .before .before)))
 
-body : (c : tie.After-body-at) → let b = c .before .before .before .before .before .before .before .before .before .before .args in c .body-at .result ≡ bodyAt (now (b .plan)) (b .at + 4) (number2 (now (b .plan)) (b .at + 2))
-body c =
-    let b = c .before .before .before .before .before .before .before .before .before .before .args in
-    c .body-at .ensures ∙ ap (bodyAt (now (b .plan)) (b .at + 4)) (c .before .before .before .before .before .before .number-2 .ensures)
+body : (c : tie.After-body-at) → let b = c .before .before .before .before .before .before .before .before .before .before in c .body-at .result ≡ bodyAt (now (b .args .plan)) (b .args .at + 4) (kind b)
+body c = c .body-at .ensures ∙ ap (bodyAt _ _) (c .before .before .before .before .before .before .number-2 .ensures)
 
 left-at-requires : tie.Need-left-at-requires
 left-at-requires c κs = search needs
