@@ -33,20 +33,29 @@ new-done board b now enough is p =
     let e = past (leb boardSize (length board)) 15 (done tt) (le-leb boardSize (length board) enough) in
     (done-number _ _ e, done-change _ _ e board _ now (p ∙ ap (λ (x : Board). laid (boardWords x) board) is))
 
--- the board that is read from words that are enough and fit
-pub record OnBoard (board : List ℕ) (b : Board) : Type 0 where
-  pub enough : boardSize ≤ length board
-  pub fits : boardFits board ≡ true
-  pub is : b ≡ boardOf board
+-- a state s that is read from words that are enough and fit
+pub record Read {S : Type 0} (size : ℕ) (test : List ℕ → Bool) (of : List ℕ → S) (words : List ℕ) (s : S) : Type 0 where
+  pub enough : size ≤ length words
+  pub fits : test words ≡ true
+  pub is : s ≡ of words
 
--- as a call tests them
-pub on-board :
-    {board : List ℕ} {b : Board} {t : Bool} → boardSize ≤ length board → t ≡ boardFits board → not t ≡ false → b ≡ boardOf board → OnBoard board b
-on-board {t = t} h e f is = record { enough = h; fits = sym e ∙ not-false t f; is = is }
+module _ {S : Type 0} (size : ℕ) (test : List ℕ → Bool) (of : List ℕ → S) {words : List ℕ} {s : S} where
+  -- as a call tests them
+  as-tested : {t : Bool} → size ≤ length words → t ≡ test words → not t ≡ false → s ≡ of words → Read size test of words s
+  as-tested {t = t} h e f is = record { enough = h; fits = sym e ∙ not-false t f; is = is }
+
+  by-state : Read size test of words s → {X : Type 0} (answer : S → Told X) (told : Told X) → told ≡ answer s → whole size words (unless (test words) 15 (answer (of words))) ≡ told
+  by-state r answer told t = simp (le-leb size (length words) (r .enough), r .fits) (ap answer (sym (r .is)) ∙ sym t)
+
+abbrev pub OnBoard : List ℕ → Board → Type 0
+OnBoard board b = Read boardSize boardFits boardOf board b
+
+pub on-board : {board : List ℕ} {b : Board} {t : Bool} → boardSize ≤ length board → t ≡ boardFits board → not t ≡ false → b ≡ boardOf board → OnBoard board b
+on-board h e f is = as-tested boardSize boardFits boardOf h e f is
 
 module _ {board : List ℕ} {b : Board} (o : OnBoard board b) where
   by-board : {X : Type 0} (answer : Board → Told X) (told : Told X) → told ≡ answer b → whole boardSize board (unless (boardFits board) 15 (answer (boardOf board))) ≡ told
-  by-board answer told t = simp (le-leb boardSize (length board) (o .enough), o .fits) (ap answer (sym (o .is)) ∙ sym t)
+  by-board answer told t = by-state boardSize boardFits boardOf o answer told t
 
   write-passed : (offset : ℕ) (told : Told (Unit {0})) → told ≡ writeAnswer b offset → writeCall board offset ≡ told
   unfolding writeCall
@@ -146,26 +155,17 @@ module _ (board mem report : List ℕ) where
       )
 
 -- the same of a frame
-pub record OnFrame (frame : List ℕ) (f : Frame) : Type 0 where
-  pub enough : frameSize ≤ length frame
-  pub fits : frameFits frame ≡ true
-  pub is : f ≡ frameOf frame
+abbrev pub OnFrame : List ℕ → Frame → Type 0
+OnFrame frame f = Read frameSize frameFits frameOf frame f
 
-pub on-frame :
-    {frame : List ℕ} {f : Frame} {t : Bool} → frameSize ≤ length frame → t ≡ frameFits frame → not t ≡ false → f ≡ frameOf frame → OnFrame frame f
-on-frame {t = t} h e p is = record { enough = h; fits = sym e ∙ not-false t p; is = is }
+pub on-frame : {frame : List ℕ} {f : Frame} {t : Bool} → frameSize ≤ length frame → t ≡ frameFits frame → not t ≡ false → f ≡ frameOf frame → OnFrame frame f
+on-frame h e p is = as-tested frameSize frameFits frameOf h e p is
 
 module _ {frame : List ℕ} {f : Frame} (o : OnFrame frame f) (mem settings : List ℕ) (good : goodLength (length mem) ≡ true) where
   pub line-passed : (told : Told Settings) → told ≡ lineAnswer f mem → lineCall frame mem settings ≡ reportable settingsSize settings told
   unfolding lineCall
   line-passed told t =
-      ap
-      (reportable settingsSize settings)
-      (past (goodLength (length mem)) 1 _ good
-      ∙ past (leb frameSize (length frame)) 15 _ (le-leb frameSize (length frame) (o .enough))
-      ∙ past (frameFits frame) 15 _ (o .fits)
-      ∙ ap (λ (x : Frame). lineAnswer x mem) (sym (o .is))
-      ∙ sym t)
+      ap (reportable settingsSize settings) (past (goodLength (length mem)) 1 _ good ∙ by-state frameSize frameFits frameOf o (λ x. lineAnswer x mem) told t)
 
   pub line-done :
       settingsSize ≤ length settings → (s : Settings) (g : Frame) (now line : List ℕ) → done s ≡ lineAnswer f mem → g ≡ lineFrame f mem
