@@ -1,15 +1,14 @@
 -- What each call answers, case by case in the order of its refusals. Assumes nothing.
 use mathlib.Core.Path.{_≡_, refl, sym, ap, _∙_}
-use mathlib.Core.Bool.{Bool, true, false, cond, _&&_}
+use mathlib.Core.Bool.{Bool, true, false, cond}
 use mathlib.Core.List.{List}
-use Prim.Native.Nat.{ℕ, zero, suc, _+_}
+use Prim.Native.Nat.{ℕ}
 use native.Mathlib.Nat.{zero-add}
 use lib.Dec.{eqb}
 use lib.ListN.{length}
-use Rattle.laws.proofs.Choice.{by-cond}
 use Rattle.refusal.specs.Sheet.{Told, done, refused, unless, kept}
 use Rattle.vram.specs.Memory.{goodLength}
-use Rattle.blitter.specs.State.{soundBlitter, stopped, interrupts}
+use Rattle.blitter.specs.State.{stopped, interrupts}
 use Rattle.engine.specs.Tick.{tickBlitter, tickMemory, tickCount}
 use Rattle.engine.specs.Run as blit
 use Rattle.engine.specs.Run.{Counts, Progress, ticked, onward, runFor, begun, counted}
@@ -17,7 +16,7 @@ use Rattle.blitter.specs.declared.Blitter.{Blitter}
 use Rattle.board.specs.declared.Ports.{Ports}
 use Rattle.board.specs.declared.Board.{Board}
 use Rattle.board.specs.Ports.{soundPorts, videoSet, portsWritten}
-use Rattle.board.specs.Board.{soundBoard, register, blitterWritten, writeAnswer, writeBoard, readByte, readAnswer, resetAnswer, resetBoard, runAnswer, runBoard, runMemory, tickAnswer, tickBoard, tickMem}
+use Rattle.board.specs.Board.{changed, withBlitter, soundBoard, register, blitterWritten, writeAnswer, writeBoard, readByte, readAnswer, resetAnswer, resetBoard, runAnswer, runBoard, runMemory, tickAnswer, tickBoard, tickMem}
 
 -- Registers.
 module _ (b : Board) (offset v : ℕ) where
@@ -31,9 +30,9 @@ module _ (b : Board) (offset v : ℕ) where
 
   pub write-done :
       soundBoard b ≡ true → register offset ≡ true → (p : Ports) (t : Blitter) → p ≡ portsWritten offset v (b .ports) → t ≡ blitterWritten (b .ports .bladr) offset v (b .blitter)
-      → (done tt ≡ writeAnswer b offset) × (record { ports = p; blitter = t } ≡ writeBoard b offset v)
+      → (done tt ≡ writeAnswer b offset) × (changed p t b ≡ writeBoard b offset v)
   unfolding writeAnswer writeBoard
-  write-done s r p t e f = (simp (s, r), simp (s, r) (λ i. record { ports = e i; blitter = f i }))
+  write-done s r p t e f = (simp (s, r), simp (s, r) (λ i. changed (e i) (f i) b))
 
   pub read-state : soundBoard b ≡ false → refused 15 0 ≡ readAnswer b offset
   unfolding readAnswer
@@ -53,10 +52,10 @@ reset-state b s = (simp s, simp s)
 
 pub reset-done :
     (b : Board) (t u : Blitter) → soundBoard b ≡ true → t ≡ stopped (b .blitter) → u ≡ interrupts false t
-    → (done tt ≡ resetAnswer b) × (record { ports = videoSet 0 (b .ports); blitter = u } ≡ resetBoard b)
+    → (done tt ≡ resetAnswer b) × (changed (videoSet 0 (b .ports)) u b ≡ resetBoard b)
 unfolding resetAnswer resetBoard
 reset-done b t u s e f =
-    (simp s, simp s (ap (λ (x : Blitter). record { ports = videoSet 0 (b .ports); blitter = x }) (f ∙ ap (interrupts false) e)))
+    (simp s, simp s (ap (λ (x : Blitter). changed (videoSet 0 (b .ports)) x b) (f ∙ ap (interrupts false) e)))
 
 -- A run.
 -- what is kept of a field is the field of what is kept
@@ -86,10 +85,10 @@ module _ (b : Board) (mem : List ℕ) (budget : ℕ) where
 
       pub as-blitter :
           (told : Told Counts) (t : Blitter) (mem′ : List ℕ) → told ≡ blit.engineAnswer (b .blitter) mem budget → t ≡ blit.engineBlitter (b .blitter) mem budget
-          → mem′ ≡ blit.engineMemory (b .blitter) mem budget → Gives told (record { ports = b .ports; blitter = t }) mem′
+          → mem′ ≡ blit.engineMemory (b .blitter) mem budget → Gives told (withBlitter t b) mem′
       unfolding runBoard runMemory blit.engineBlitter blit.engineMemory
       as-blitter told t mem′ p q r =
-          let held : (Blitter → Board) = λ x. record { ports = b .ports; blitter = x } in (
+          let held : (Blitter → Board) = λ x. withBlitter x b in (
             p ∙ sym same-answer,
             (
               ap held q

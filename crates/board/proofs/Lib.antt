@@ -2,4 +2,5 @@
 pub mod Answer
 pub mod Sound
 pub mod Pieces
+mod Written
 mod Once

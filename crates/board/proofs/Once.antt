@@ -1,11 +1,8 @@
 -- Each contract of this crate's public calls admits one outcome only. Assumes nothing.
-use mathlib.Core.Path.{_≡_, refl, sym, ap, _∙_}
-use Prim.Native.Nat.{ℕ}
-use native.Mathlib.Omega.{arith}
+use mathlib.Core.Path.{_≡_, sym, ap, _∙_}
 use denote.Ref.{now}
 use Rattle.laws.proofs.Once.{OneAnswer, OneExit}
-use Rattle.refusal.proofs.Sheet.{number-one, outcome-one}
-use Rattle.refusal.specs.Sheet.{Told, done, refused, numberOf}
+use Rattle.refusal.proofs.Sheet.{number-one, done-refused, refused-done, outcome-one}
 use Rattle.engine.proofs.Once.{run-one}
 use Rattle.board.specs.Board.{readTold}
 use Rattle.board.specs.declared.ReadReport.{ReadReport}
@@ -30,8 +27,8 @@ use Rattle.board.proofs.Board.tick.Reads as tick
 -- what is told of a read means one report
 read-one : (x y : ReadReport) → readTold x ≡ readTold y → x ≡ y
 read-one (Byte v) (Byte w) e = cc
-read-one (Byte v) (Refused w) e = absurd (let z : _≡_ {A = ℕ} 0 1 = cc in omega arith)
-read-one (Refused v) (Byte w) e = absurd (let z : _≡_ {A = ℕ} 0 1 = cc in omega arith)
+read-one (Byte v) (Refused w) e = done-refused e
+read-one (Refused v) (Byte w) e = refused-done e
 read-one (Refused v) (Refused w) e = ap Refused (number-one v w (cc))
 
 changed-one : (x y : Changed) → x .board ≡ y .board → x .report ≡ y .report → x ≡ y

@@ -9,14 +9,14 @@ use Rattle.engine.specs.Run as blit
 use Rattle.blitter.specs.declared.Blitter.{Blitter}
 use Rattle.engine.proofs.Pieces.{Taken, added, pieces-blitter, pieces-memory, pieces-answer}
 use Rattle.board.specs.declared.Board.{Board}
-use Rattle.board.specs.Board.{runAnswer, runBoard, runMemory}
+use Rattle.board.specs.Board.{withBlitter, runAnswer, runBoard, runMemory}
 use Rattle.board.proofs.Answer.{Gives, as-blitter}
 use Rattle.board.proofs.Sound.{Sound, ports-test, run-board-sound, run-board-length}
 
 -- a board's run gives what the blitter's run from x and m gives
 abbrev pub Same : Board → List ℕ → ℕ → Board → List ℕ → Type 0
 Same b mem n x m =
-    Gives b mem n (blit.engineAnswer (x .blitter) m n) (record { ports = x .ports; blitter = blit.engineBlitter (x .blitter) m n }) (blit.engineMemory (x .blitter) m n)
+    Gives b mem n (blit.engineAnswer (x .blitter) m n) (withBlitter (blit.engineBlitter (x .blitter) m n) x) (blit.engineMemory (x .blitter) m n)
 
 -- past the refusals 1 and 15, from its own
 pub run-is : (b : Board) (mem : List ℕ) (n : ℕ) → goodLength (length mem) ≡ true → Sound b → Same b mem n b mem
@@ -29,10 +29,10 @@ module _ (b : Board) (mem : List ℕ) (m n : ℕ) (good : goodLength (length mem
   first : Same b mem m b mem
   first = run-is b mem m good sound
 
-  second : Same (runBoard b mem m) (runMemory b mem m) n (record { ports = b .ports; blitter = blit.engineBlitter (b .blitter) mem m }) (blit.engineMemory (b .blitter) mem m)
+  second : Same (runBoard b mem m) (runMemory b mem m) n (withBlitter (blit.engineBlitter (b .blitter) mem m) b) (blit.engineMemory (b .blitter) mem m)
   second =
       let then = run-is (runBoard b mem m) (runMemory b mem m) n (ap goodLength (run-board-length b mem m) ∙ good) (run-board-sound b mem m sound) in
-      subst (Same (runBoard b mem m) (runMemory b mem m) n (record { ports = b .ports; blitter = blit.engineBlitter (b .blitter) mem m })) (sym (first .1 .1))
+      subst (Same (runBoard b mem m) (runMemory b mem m) n (withBlitter (blit.engineBlitter (b .blitter) mem m) b)) (sym (first .1 .1))
       (subst (λ (x : Board). Same (runBoard b mem m) (runMemory b mem m) n x (runMemory b mem m)) (sym (first .1 .0)) then)
 
   whole : Same b mem (m + n) b mem
@@ -40,7 +40,7 @@ module _ (b : Board) (mem : List ℕ) (m n : ℕ) (good : goodLength (length mem
 
   pub run-pieces-board : runBoard (runBoard b mem m) (runMemory b mem m) n ≡ runBoard b mem (m + n)
   run-pieces-board =
-      sym (second .1 .0) ∙ ap (λ (x : Blitter). record { ports = b .ports; blitter = x }) (pieces-blitter m n taken) ∙ whole .1 .0
+      sym (second .1 .0) ∙ ap (λ (x : Blitter). withBlitter x b) (pieces-blitter m n taken) ∙ whole .1 .0
 
   pub run-pieces-memory : runMemory (runBoard b mem m) (runMemory b mem m) n ≡ runMemory b mem (m + n)
   run-pieces-memory = sym (second .1 .1) ∙ pieces-memory m n taken ∙ whole .1 .1

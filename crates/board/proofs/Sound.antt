@@ -1,13 +1,13 @@
 -- Which boards are sound, and that no call changes that; what a run and a tick leave as it is. Assumes nothing.
 use mathlib.Core.Path.{_≡_, refl, sym, ap, subst, _∙_}
-use mathlib.Core.Bool.{true, false, cond, _&&_}
-use mathlib.Core.List.{List}
-use Prim.Native.Nat.{ℕ, _%_, _<_}
+use mathlib.Core.Bool.{Bool, true, false, cond}
+use mathlib.Core.List.{List, [], _∷_}
+use Prim.Native.Nat.{ℕ, _-_, _%_, _<_}
 use native.Mathlib.Omega.{arith}
 use lib.Dec.{eqb, ltb}
 use lib.ListN.{length}
 use borrow.Author.Tests.{ltb-true, lt-ltb}
-use Rattle.laws.proofs.Choice.{both, and-both, by-cond}
+use Rattle.laws.proofs.Choice.{both, and-both, by-cond, each-test}
 use Rattle.refusal.specs.Sheet.{Told, done, refused, kept}
 use Rattle.blitter.specs.State.{soundBlitter, stopped}
 use Rattle.engine.specs.Run.{begun}
@@ -17,7 +17,7 @@ use Rattle.engine.proofs.Runs.{run-sound, run-length}
 use Rattle.engine.proofs.Bytes.{Bytes, run-bytes}
 use Rattle.board.specs.declared.Ports.{Ports}
 use Rattle.board.specs.declared.Board.{Board}
-use Rattle.board.specs.Ports.{soundPorts, lowSet, middleSet, highSet, videoSet, addressesSet, prioritiesSet, portsWritten}
+use Rattle.board.specs.Ports.{soundPorts, byteSet, among, portsWritten}
 use Rattle.board.specs.Board.{newBoard, soundBoard, blitterWritten, writeAnswer, writeBoard, resetAnswer, resetBoard, runAnswer, runBoard, runMemory, tickBoard, tickMem}
 use Rattle.board.proofs.Answer.{tick-board, tick-memory}
 
@@ -34,12 +34,11 @@ pub record Sound (b : Board) : Type 0 where
 -- what the test says
 pub ports-facts : (p : Ports) → soundPorts p ≡ true → SoundPorts p
 ports-facts p e =
-    let f = both (ltb (p .video) 16 && ltb (p .xdladr) 524288) (ltb (p .bladr) 524288) e in
-    let g = both (ltb (p .video) 16) (ltb (p .xdladr) 524288) (f .0) in
+    let f = each-test (ltb (p .video) 16) (ltb (p .xdladr) 524288 ∷ ltb (p .bladr) 524288 ∷ []) e in
     record {
-      video-in = ltb-true (p .video) 16 (g .0);
-      xdladr-in = ltb-true (p .xdladr) 524288 (g .1);
-      bladr-in = ltb-true (p .bladr) 524288 (f .1);
+      video-in = ltb-true (p .video) 16 (f .0);
+      xdladr-in = ltb-true (p .xdladr) 524288 (f .1 .0);
+      bladr-in = ltb-true (p .bladr) 524288 (f .1 .1 .0);
     }
 
 pub sound-facts : (b : Board) → soundBoard b ≡ true → Sound b
@@ -68,44 +67,22 @@ by-kept P (refused k i) x y p q = p
 
 -- Writes, of a byte.
 module _ (v : ℕ) (byte : v < 256) where
-  low-small : (a : ℕ) → lowSet a v < 524288
-  low-small a = omega arith
-
-  middle-small : (a : ℕ) → middleSet a v < 524288
-  middle-small a = omega arith
-
-  high-small : (a : ℕ) → highSet a v < 524288
-  high-small a = omega arith
+  byte-small : (a k : ℕ) → byteSet a k v < 524288
+  byte-small a k =
+      by-cond (λ (x : ℕ). x < 524288) (eqb k 0) _ _ (λ _. omega arith)
+      (λ _. by-cond (λ (x : ℕ). x < 524288) (eqb k 1) _ _ (λ _. omega arith) (λ _. omega arith))
 
   written-ports : (offset : ℕ) (p : Ports) → SoundPorts p → SoundPorts (portsWritten offset v p)
   unfolding portsWritten
   written-ports offset p s =
-      by 0x40 video
-      (by 0x41 (xdladr (low-small (p .xdladr)))
-      (by 0x42 (xdladr (middle-small (p .xdladr)))
-      (by 0x43 (xdladr (high-small (p .xdladr)))
-      (by 0x50 (bladr (low-small (p .bladr)))
-      (by 0x51 (bladr (middle-small (p .bladr)))
-      (by 0x52 (bladr (high-small (p .bladr)))
-      (by 0x55 (same v (p .p1) (p .p2) (p .p3))
-      (by 0x56 (same (p .p0) v (p .p2) (p .p3))
-      (by 0x57 (same (p .p0) (p .p1) v (p .p3))
-      (by 0x58 (same (p .p0) (p .p1) (p .p2) v) s))))))))))
+      record {
+        video-in = by-cond (λ (x : ℕ). x < 16) (eqb offset 0x40) _ _ (λ _. omega arith) (λ _. s .video-in);
+        xdladr-in = address (among 0x41 0x43 offset) (offset - 0x41) (p .xdladr) (s .xdladr-in);
+        bladr-in = address (among 0x50 0x52 offset) (offset - 0x50) (p .bladr) (s .bladr-in);
+      }
     where
-      by : (at : ℕ) {x y : Ports} → SoundPorts x → SoundPorts y → SoundPorts (cond (eqb offset at) x y)
-      by at f g = by-cond SoundPorts (eqb offset at) _ _ (λ _. f) (λ _. g)
-
-      video : SoundPorts (videoSet (v % 16) p)
-      video = record { video-in = omega arith; xdladr-in = s .xdladr-in; bladr-in = s .bladr-in }
-
-      xdladr : {a : ℕ} → a < 524288 → SoundPorts (addressesSet a (p .bladr) p)
-      xdladr h = record { video-in = s .video-in; xdladr-in = h; bladr-in = s .bladr-in }
-
-      bladr : {a : ℕ} → a < 524288 → SoundPorts (addressesSet (p .xdladr) a p)
-      bladr h = record { video-in = s .video-in; xdladr-in = s .xdladr-in; bladr-in = h }
-
-      same : (a b c d : ℕ) → SoundPorts (prioritiesSet a b c d p)
-      same a b c d = record { video-in = s .video-in; xdladr-in = s .xdladr-in; bladr-in = s .bladr-in }
+      address : (t : Bool) (k a : ℕ) → a < 524288 → cond t (byteSet a k v) a < 524288
+      address t k a h = by-cond (λ (x : ℕ). x < 524288) t _ _ (λ _. byte-small a k) (λ _. h)
 
   written-blitter : (bladr offset : ℕ) (b : Blitter) → bladr < 524288 → blit.Sound b → blit.Sound (blitterWritten bladr offset v b)
   unfolding blitterWritten

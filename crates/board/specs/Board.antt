@@ -1,5 +1,5 @@
 -- Document 01, "Registers" and "The blitter": what each call on a board answers, and the board and memory after it.
-use mathlib.Core.Bool.{Bool, true, false, cond, _&&_}
+use mathlib.Core.Bool.{Bool, false, cond, _&&_}
 use mathlib.Core.List.{List}
 use Prim.Native.Nat.{ℕ, _%_}
 use lib.Dec.{eqb, leb}
@@ -14,18 +14,25 @@ use Rattle.board.specs.declared.Ports.{Ports}
 use Rattle.board.specs.declared.Board.{Board}
 use Rattle.board.specs.declared.ReadReport.{ReadReport}
 use Rattle.board.specs.declared.ReadReport.the-variants.{Byte, Refused}
-use Rattle.board.specs.Ports.{newPorts, soundPorts, videoSet, portsWritten}
+use Rattle.board.specs.Ports.{newPorts, soundPorts, videoSet, among, portsWritten}
 
 -- "A new board has every register, flag and state field 0"
 abbrev pub newBoard : Board
 newBoard = record { ports = newPorts; blitter = newBlitter }
+
+-- a board with other ports and another blitter, or with another blitter alone: all else stays
+abbrev pub changed : Ports → Blitter → Board → Board
+changed p t b = record { ports = p; blitter = t }
+
+abbrev pub withBlitter : Blitter → Board → Board
+withBlitter t b = changed (b .ports) t b
 
 unfoldable pub soundBoard : Board → Bool
 soundBoard b = soundPorts (b .ports) && soundBlitter (b .blitter)
 
 -- 3 "offset outside 0x40..0x5F"
 abbrev pub register : ℕ → Bool
-register offset = leb 0x40 offset && leb offset 0x5F
+register offset = among 0x40 0x5F offset
 
 -- "Writing bit 0 = 1 to BLITTER_START" starts, "Writing 0" stops; "0x54 IRQ_CONTROL"
 unfoldable pub blitterWritten : ℕ → ℕ → ℕ → Blitter → Blitter
@@ -40,9 +47,7 @@ writeAnswer b offset = unless (soundBoard b) 15 (unless (register offset) 3 (don
 
 unfoldable pub writeBoard : Board → ℕ → ℕ → Board
 writeBoard b offset v =
-    kept (writeAnswer b offset)
-    b
-    (record { ports = portsWritten offset v (b .ports); blitter = blitterWritten (b .ports .bladr) offset v (b .blitter) })
+    kept (writeAnswer b offset) b (changed (portsWritten offset v (b .ports)) (blitterWritten (b .ports .bladr) offset v (b .blitter)) b)
 
 -- "Reads: 0x40 gives 0x10, 0x41 gives 0x24 .., 0x50 the code, 0x53 the flags, 0x54 IRQF, 0x4A, 0x5E and 0x5F give 0 .., others 255"
 unfoldable pub readByte : Board → ℕ → ℕ
@@ -71,7 +76,7 @@ resetAnswer b = unless (soundBoard b) 15 (done tt)
 
 unfoldable pub resetBoard : Board → Board
 resetBoard b =
-    kept (resetAnswer b) b (record { ports = videoSet 0 (b .ports); blitter = interrupts false (stopped (b .blitter)) })
+    kept (resetAnswer b) b (changed (videoSet 0 (b .ports)) (interrupts false (stopped (b .blitter))) b)
 
 -- a run, of the blitter alone: 1 board, 15 state, 2 budget
 unfoldable pub runAnswer : Board → List ℕ → ℕ → Told Counts
@@ -81,7 +86,7 @@ runAnswer b mem budget =
 
 unfoldable pub runBoard : Board → List ℕ → ℕ → Board
 runBoard b mem budget =
-    kept (runAnswer b mem budget) b (record { ports = b .ports; blitter = runFor budget (begun (b .blitter) mem) .blitter })
+    kept (runAnswer b mem budget) b (withBlitter (runFor budget (begun (b .blitter) mem) .blitter) b)
 
 unfoldable pub runMemory : Board → List ℕ → ℕ → List ℕ
 runMemory b mem budget = kept (runAnswer b mem budget) mem (runFor budget (begun (b .blitter) mem) .mem)
@@ -94,7 +99,7 @@ tickAnswer b mem =
     (done (record { ticks = cond (eqb (b .blitter .flags) 0) 0 1; accesses = tickCount (b .blitter) mem })))
 
 unfoldable pub tickBoard : Board → List ℕ → Board
-tickBoard b mem = kept (tickAnswer b mem) b (record { ports = b .ports; blitter = tickBlitter (b .blitter) mem })
+tickBoard b mem = kept (tickAnswer b mem) b (withBlitter (tickBlitter (b .blitter) mem) b)
 
 unfoldable pub tickMem : Board → List ℕ → List ℕ
 tickMem b mem = kept (tickAnswer b mem) mem (tickMemory (b .blitter) mem)

@@ -1,7 +1,7 @@
 ghost use mathlib.Core.Path.{_≡_};
 ghost use Rattle.refusal.specs.Sheet.{outcomeTold};
 ghost use Rattle.engine.specs.Run.{runTold};
-ghost use Rattle.board.specs.Ports.{newPorts, soundPorts, lowSet, middleSet, highSet, portsWritten};
+ghost use Rattle.board.specs.Ports.{newPorts, soundPorts, byteSet, portsWritten};
 ghost use Rattle.board.specs.Board.{newBoard, soundBoard, register, blitterWritten, writeAnswer, writeBoard, readByte, readTold, readAnswer, resetAnswer, resetBoard, runAnswer, runBoard, runMemory, tickAnswer, tickBoard, tickMem};
 use blitter::Blitter;
 use engine::RunReport;
@@ -44,27 +44,18 @@ pub struct Ran {
     pub report: RunReport,
 }
 
-// An address register with one of its bytes written: bits 0 to 7, 8 to 15, 16 to 18.
-fn low_set(address: u32, value: u8) -> u32
-    ensures { λ r. ⌜ r ≡ lowSet address value ⌝ }
+// An address register with one of its three bytes written: 0 is bits 0 to 7, 1 bits 8 to 15, 2 bits 16 to 18.
+fn byte_set(address: u32, k: u32, value: u8) -> u32
+    ensures { λ r. ⌜ r ≡ byteSet address k value ⌝ }
 {
-    vram::number_19(
-        value,
-        (address / 256 % 256) as u8,
-        (address / 65536 % 8) as u8,
-    )
-}
-
-fn middle_set(address: u32, value: u8) -> u32
-    ensures { λ r. ⌜ r ≡ middleSet address value ⌝ }
-{
-    vram::number_19((address % 256) as u8, value, (address / 65536 % 8) as u8)
-}
-
-fn high_set(address: u32, value: u8) -> u32
-    ensures { λ r. ⌜ r ≡ highSet address value ⌝ }
-{
-    vram::number_19((address % 256) as u8, (address / 256 % 256) as u8, value)
+    let low = (address % 256) as u8;
+    let middle = (address / 256 % 256) as u8;
+    let high = (address / 65536 % 8) as u8;
+    match k {
+        0 => vram::number_19(value, middle, high),
+        1 => vram::number_19(low, value, high),
+        _ => vram::number_19(low, middle, value),
+    }
 }
 
 // Whether the card answers at this offset.
@@ -107,28 +98,12 @@ impl Ports {
             0x40 => {
                 self.video = value % 16;
             }
-            0x41 => {
-                let address = low_set(self.xdladr, value);
+            0x41..=0x43 => {
+                let address = byte_set(self.xdladr, offset - 0x41, value);
                 self.xdladr = address;
             }
-            0x42 => {
-                let address = middle_set(self.xdladr, value);
-                self.xdladr = address;
-            }
-            0x43 => {
-                let address = high_set(self.xdladr, value);
-                self.xdladr = address;
-            }
-            0x50 => {
-                let address = low_set(self.bladr, value);
-                self.bladr = address;
-            }
-            0x51 => {
-                let address = middle_set(self.bladr, value);
-                self.bladr = address;
-            }
-            0x52 => {
-                let address = high_set(self.bladr, value);
+            0x50..=0x52 => {
+                let address = byte_set(self.bladr, offset - 0x50, value);
                 self.bladr = address;
             }
             0x55 => {

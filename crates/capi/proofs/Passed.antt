@@ -1,13 +1,13 @@
 -- A call whose lent words are enough and fit, on memory of a good length, goes by the board's, the frame's or the plan's own answer, and then by its report's room. Assumes nothing.
 use mathlib.Core.Path.{_≡_, refl, sym, ap, _∙_}
-use mathlib.Core.Bool.{Bool, true, false}
+use mathlib.Core.Bool.{Bool, true, false, not}
 use mathlib.Core.List.{List}
 use Prim.Native.Nat.{ℕ, _≤_, _<_}
-use native.Mathlib.Omega.{arith}
 use lib.Dec.{leb}
 use lib.ListN.{length}
-use borrow.Author.Tests.{le-leb}
+use borrow.Author.Tests.{le-leb, not-false}
 use Rattle.refusal.specs.Sheet.{Told, done, refused, unless, kept}
+use Rattle.refusal.proofs.Sheet.{done-refused, refused-done}
 use Rattle.vram.specs.Memory.{goodLength}
 use Rattle.engine.specs.Run.{Counts}
 use Rattle.board.specs.declared.Board.{Board}
@@ -33,33 +33,52 @@ new-done board b now enough is p =
     let e = past (leb boardSize (length board)) 15 (done tt) (le-leb boardSize (length board) enough) in
     (done-number _ _ e, done-change _ _ e board _ now (p ∙ ap (λ (x : Board). laid (boardWords x) board) is))
 
--- the board that is read from words that are enough and fit
-module _ (board : List ℕ) (b : Board) (enough : boardSize ≤ length board) (fits : boardFits board ≡ true) (is : b ≡ boardOf board) where
-  on-board : {X : Type 0} (answer : Board → Told X) (told : Told X) → told ≡ answer b → whole boardSize board (unless (boardFits board) 15 (answer (boardOf board))) ≡ told
-  on-board answer told t = simp (le-leb boardSize (length board) enough, fits) (ap answer (sym is) ∙ sym t)
+-- a state s that is read from words that are enough and fit
+pub record Read {S : Type 0} (size : ℕ) (test : List ℕ → Bool) (of : List ℕ → S) (words : List ℕ) (s : S) : Type 0 where
+  pub enough : size ≤ length words
+  pub fits : test words ≡ true
+  pub is : s ≡ of words
+
+module _ {S : Type 0} (size : ℕ) (test : List ℕ → Bool) (of : List ℕ → S) {words : List ℕ} {s : S} where
+  -- as a call tests them
+  as-tested : {t : Bool} → size ≤ length words → t ≡ test words → not t ≡ false → s ≡ of words → Read size test of words s
+  as-tested {t = t} h e f is = record { enough = h; fits = sym e ∙ not-false t f; is = is }
+
+  by-state : Read size test of words s → {X : Type 0} (answer : S → Told X) (told : Told X) → told ≡ answer s → whole size words (unless (test words) 15 (answer (of words))) ≡ told
+  by-state r answer told t = simp (le-leb size (length words) (r .enough), r .fits) (ap answer (sym (r .is)) ∙ sym t)
+
+abbrev pub OnBoard : List ℕ → Board → Type 0
+OnBoard board b = Read boardSize boardFits boardOf board b
+
+pub on-board : {board : List ℕ} {b : Board} {t : Bool} → boardSize ≤ length board → t ≡ boardFits board → not t ≡ false → b ≡ boardOf board → OnBoard board b
+on-board h e f is = as-tested boardSize boardFits boardOf h e f is
+
+module _ {board : List ℕ} {b : Board} (o : OnBoard board b) where
+  by-board : {X : Type 0} (answer : Board → Told X) (told : Told X) → told ≡ answer b → whole boardSize board (unless (boardFits board) 15 (answer (boardOf board))) ≡ told
+  by-board answer told t = by-state boardSize boardFits boardOf o answer told t
 
   write-passed : (offset : ℕ) (told : Told (Unit {0})) → told ≡ writeAnswer b offset → writeCall board offset ≡ told
   unfolding writeCall
-  write-passed offset told t = on-board (λ x. writeAnswer x offset) told t
+  write-passed offset told t = by-board (λ x. writeAnswer x offset) told t
 
   reset-passed : (told : Told (Unit {0})) → told ≡ resetAnswer b → resetCall board ≡ told
   unfolding resetCall
-  reset-passed told t = on-board resetAnswer told t
+  reset-passed told t = by-board resetAnswer told t
 
   pub read-passed : (offset : ℕ) (report : List ℕ) (told : Told ℕ) → told ≡ readAnswer b offset → readCall board offset report ≡ reportable 1 report told
   unfolding readCall
-  read-passed offset report told t = ap (reportable 1 report) (on-board (λ x. readAnswer x offset) told t)
+  read-passed offset report told t = ap (reportable 1 report) (by-board (λ x. readAnswer x offset) told t)
 
   pub start-passed : (frame : List ℕ) → frameSize ≤ length frame → (told : Told Frame) → told ≡ startAnswer b → startCall board frame ≡ told
   unfolding startCall
   start-passed frame h told t =
-      ap (whole boardSize board) (past (leb frameSize (length frame)) 15 _ (le-leb frameSize (length frame) h)) ∙ on-board startAnswer told t
+      ap (whole boardSize board) (past (leb frameSize (length frame)) 15 _ (le-leb frameSize (length frame) h)) ∙ by-board startAnswer told t
 
   -- a board a that is laid over the words where the call was done
   module _ {X : Type 0} (told : Told X) (a : Board) (k : ℕ) (now : List ℕ) (n : k ≡ numberTold told) (s : now ≡ kept told board (laid (boardWords a) board)) where
     settled : (call : Told X) (f : Board → Board) → call ≡ told → a ≡ f b → (k ≡ numberTold call) × (now ≡ kept call board (laid (boardWords (f (boardOf board))) board))
     settled call f e w =
-        (as-number call told e k n, as-change call told e board _ _ now (ap (λ (x : Board). laid (boardWords x) board) (w ∙ ap f is)) s)
+        (as-number call told e k n, as-change call told e board _ _ now (ap (λ (x : Board). laid (boardWords x) board) (w ∙ ap f (o .is))) s)
 
   module _ (told : Told (Unit {0})) (a : Board) (k : ℕ) (now : List ℕ) (n : k ≡ numberTold told) (s : now ≡ kept told board (laid (boardWords a) board)) where
     pub write-done : (offset v : ℕ) → told ≡ writeAnswer b offset → a ≡ writeBoard b offset v → (k ≡ numberTold (writeCall board offset)) × (now ≡ writeWords board offset v)
@@ -79,7 +98,7 @@ module _ (board : List ℕ) (b : Board) (enough : boardSize ≤ length board) (f
     run-passed : (told : Told Counts) → told ≡ runAnswer b mem budget → runCall board mem budget report ≡ reportable 2 report told
     unfolding runCall
     run-passed told t =
-        ap (reportable 2 report) (past (goodLength (length mem)) 1 _ good ∙ on-board (λ x. runAnswer x mem budget) told t)
+        ap (reportable 2 report) (past (goodLength (length mem)) 1 _ good ∙ by-board (λ x. runAnswer x mem budget) told t)
 
     pub run-done :
         2 ≤ length report → (told : Told Counts) (a : Board) (k : ℕ) (now bytes counts : List ℕ)
@@ -92,7 +111,7 @@ module _ (board : List ℕ) (b : Board) (enough : boardSize ≤ length board) (f
         let e = run-passed told t ∙ roomy 2 report told h in
         let both = settled told a k now n s call (λ x. runBoard x mem budget) e w in
         let kept-so = kept-twice (runAnswer b mem budget) mem _ ∙ ap (λ (x : Told Counts). kept x mem (runMemory b mem budget)) (sym t) in
-        let same = as-change call told e mem _ _ bytes (ap (λ (x : Board). runMemory x mem budget) is) (p ∙ kept-so) in
+        let same = as-change call told e mem _ _ bytes (ap (λ (x : Board). runMemory x mem budget) (o .is)) (p ∙ kept-so) in
         (both .0, (both .1, (same, as-report call told e countWords report counts r)))
 
     -- the counts have no room
@@ -136,19 +155,17 @@ module _ (board mem report : List ℕ) where
       )
 
 -- the same of a frame
-module _
-    (frame mem settings : List ℕ) (f : Frame) (good : goodLength (length mem) ≡ true)
-    (enough : frameSize ≤ length frame) (fits : frameFits frame ≡ true) (is : f ≡ frameOf frame) where
+abbrev pub OnFrame : List ℕ → Frame → Type 0
+OnFrame frame f = Read frameSize frameFits frameOf frame f
+
+pub on-frame : {frame : List ℕ} {f : Frame} {t : Bool} → frameSize ≤ length frame → t ≡ frameFits frame → not t ≡ false → f ≡ frameOf frame → OnFrame frame f
+on-frame h e p is = as-tested frameSize frameFits frameOf h e p is
+
+module _ {frame : List ℕ} {f : Frame} (o : OnFrame frame f) (mem settings : List ℕ) (good : goodLength (length mem) ≡ true) where
   pub line-passed : (told : Told Settings) → told ≡ lineAnswer f mem → lineCall frame mem settings ≡ reportable settingsSize settings told
   unfolding lineCall
   line-passed told t =
-      ap
-      (reportable settingsSize settings)
-      (past (goodLength (length mem)) 1 _ good
-      ∙ past (leb frameSize (length frame)) 15 _ (le-leb frameSize (length frame) enough)
-      ∙ past (frameFits frame) 15 _ fits
-      ∙ ap (λ (x : Frame). lineAnswer x mem) (sym is)
-      ∙ sym t)
+      ap (reportable settingsSize settings) (past (goodLength (length mem)) 1 _ good ∙ by-state frameSize frameFits frameOf o (λ x. lineAnswer x mem) told t)
 
   pub line-done :
       settingsSize ≤ length settings → (s : Settings) (g : Frame) (now line : List ℕ) → done s ≡ lineAnswer f mem → g ≡ lineFrame f mem
@@ -158,7 +175,7 @@ module _
       let e = line-passed (done s) t ∙ roomy settingsSize settings (done s) h in (
         done-number _ _ e,
         (
-          done-change _ _ e frame _ now (p ∙ ap (λ (x : Frame). laid (frameWords x) frame) (w ∙ ap (λ (x : Frame). lineFrame x mem) is)),
+          done-change _ _ e frame _ now (p ∙ ap (λ (x : Frame). laid (frameWords x) frame) (w ∙ ap (λ (x : Frame). lineFrame x mem) (o .is))),
           done-report _ _ e settingsWords settings line q,
         ),
       )
@@ -173,8 +190,8 @@ pub no-room-done : (plan : List ℕ) (n : ℕ) {A : Type 0} → compileAnswer pl
 no-room-done plan n e = by (compileAnswer plan 0) e (no-room plan 0)
   where
     by : (told : Told ℕ) {A : Type 0} → told ≡ done n → told ≡ roomless told → A
-    by (done m) d q = absurd (let z : _≡_ {A = ℕ} 0 1 = cc q in omega arith)
-    by (refused k item) d q = absurd (let z : _≡_ {A = ℕ} 0 1 = cc d in omega arith)
+    by (done m) d q = done-refused q
+    by (refused k item) d q = refused-done d
 
 module _ (plan out report : List ℕ) where
   -- the output, also where a plan is refused

@@ -23,7 +23,8 @@ use Rattle.block.specs.declared.Block.{Block}
 use Rattle.block.proofs.Bytes.{block-same}
 use Rattle.step.specs.Step.{signed, stepX, stepY, wrap19, sideAddress}
 use Rattle.blitter.specs.State.{newBlitter, soundBlitter}
-use Rattle.board.specs.Board.{soundBoard, writeBoard}
+use Rattle.board.specs.Ports.{newPorts, bladrSet}
+use Rattle.board.specs.Board.{newBoard, changed, soundBoard, writeBoard}
 use Rattle.board.specs.declared.Board.{Board}
 use Rattle.lists.specs.Bench.{Bench, bench, runs, reported, sum, allowed}
 use Rattle.lists.specs.Touch.{Touched}
@@ -40,7 +41,7 @@ memory = installMemory blank bytes 524270
 
 -- BL_ADR has a list's address; all else is new
 abbrev pub boardAt : ℕ → Board
-boardAt a = record { ports = record { video = 0; xdladr = 0; bladr = a; p0 = 0; p1 = 0; p2 = 0; p3 = 0 }; blitter = newBlitter }
+boardAt a = changed (bladrSet a newPorts) newBlitter newBoard
 
 pub boardAt-sound : (a : ℕ) → a < 524288 → soundBoard (boardAt a) ≡ true
 unfolding soundBoard soundBlitter isNone noneSide noBlock noSide

@@ -13,7 +13,7 @@ use Rattle.vram.specs.Memory.{goodLength}
 use Rattle.blitter.specs.State.{started}
 use Rattle.blitter.proofs.Sound.{started-sound}
 use Rattle.engine.specs.Run.{Counts, runFor, begun, counted}
-use Rattle.board.specs.Board.{soundBoard, blitterWritten, writeBoard, runAnswer, runMemory}
+use Rattle.board.specs.Board.{withBlitter, soundBoard, blitterWritten, writeBoard, runAnswer, runMemory}
 use Rattle.board.specs.Ports.{portsWritten}
 use Rattle.board.specs.declared.Board.{Board}
 use Rattle.board.proofs.Answer.{write-done}
@@ -49,7 +49,7 @@ run-touches b mem n i = by (runAnswer b mem n) refl
 
 -- BLITTER_START, by the board's write
 abbrev startedBoard : Board → Board
-startedBoard b = record { ports = b .ports; blitter = started (b .ports .bladr) (b .blitter) }
+startedBoard b = withBlitter (started (b .ports .bladr) (b .blitter)) b
 
 pub start-is : (b : Board) (v : ℕ) → soundBoard b ≡ true → v % 2 ≡ 1 → startedBoard b ≡ writeBoard b 0x53 v
 unfolding portsWritten blitterWritten

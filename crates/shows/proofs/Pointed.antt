@@ -1,18 +1,19 @@
 -- The list register pointed at an address, the list switched on and a frame started: whatever the sound board was, the frame begins at that address
 -- and is switched on. Assumes nothing.
 use mathlib.Core.Path.{_≡_, refl, sym, ap, _∙_}
-use mathlib.Core.Bool.{true, _&&_}
+use mathlib.Core.Bool.{true}
+use mathlib.Core.List.{[], _∷_}
 use Prim.Native.Nat.{ℕ, _+_, _*_, _/_, _%_, _≤_, _<_}
 use native.Mathlib.Nat.{mod-lt}
 use native.Mathlib.Omega.{arith}
 use lib.Dec.{ltb}
 use borrow.Author.Tests.{lt-ltb, eq-eqb}
-use Rattle.laws.proofs.Choice.{both}
+use Rattle.laws.proofs.Choice.{both, each-test}
 use Rattle.laws.specs.Bit.{bit}
 use Rattle.refusal.specs.Sheet.{done}
 use Rattle.blitter.specs.State.{soundBlitter}
-use Rattle.board.specs.Ports.{soundPorts, lowSet, middleSet, highSet, videoSet, addressesSet, portsWritten}
-use Rattle.board.specs.Board.{soundBoard, blitterWritten, writeBoard}
+use Rattle.board.specs.Ports.{soundPorts, videoSet, xdladrSet, byteSet, portsWritten}
+use Rattle.board.specs.Board.{changed, soundBoard, blitterWritten, writeBoard}
 use Rattle.board.specs.declared.Board.{Board}
 use Rattle.board.proofs.Answer.{write-done}
 use Rattle.frame.specs.Frame.{startOf, startAnswer}
@@ -20,10 +21,10 @@ use Rattle.shows.specs.Shows.{pointed, frameStarted}
 
 -- the same board with another list register, and with another VIDEO_CONTROL
 abbrev listing : ℕ → Board → Board
-listing a b = record { ports = addressesSet a (b .ports .bladr) (b .ports); blitter = b .blitter }
+listing a b = changed (xdladrSet a (b .ports)) (b .blitter) b
 
 abbrev showing : ℕ → Board → Board
-showing v b = record { ports = videoSet v (b .ports); blitter = b .blitter }
+showing v b = changed (videoSet v (b .ports)) (b .blitter) b
 
 -- what is sound of a board, beside its list register
 record Fits (b : Board) : Type 0 where
@@ -36,9 +37,8 @@ fits : (b : Board) → soundBoard b ≡ true → Fits b
 unfolding soundBoard
 fits b e =
     let p = both (soundPorts (b .ports)) (soundBlitter (b .blitter)) e in
-    let q = both (ltb (b .ports .video) 16 && ltb (b .ports .xdladr) 524288) (ltb (b .ports .bladr) 524288) (p .0) in
-    let r = both (ltb (b .ports .video) 16) (ltb (b .ports .xdladr) 524288) (q .0) in
-    record { video = r .0; list = r .1; blocks = q .1; blitter = p .1 }
+    let q = each-test (ltb (b .ports .video) 16) (ltb (b .ports .xdladr) 524288 ∷ ltb (b .ports .bladr) 524288 ∷ []) (p .0) in
+    record { video = q .0; list = q .1 .0; blocks = q .1 .1 .0; blitter = p .1 }
 
 sound-listing : (b : Board) (a : ℕ) → soundBoard b ≡ true → a < 524288 → soundBoard (listing a b) ≡ true
 unfolding soundBoard
@@ -50,15 +50,15 @@ sound-showing b v s h = let f = fits b s in simp (lt-ltb v 16 h, f .list, f .blo
 
 -- one write to each of the four registers
 module _ (b : Board) (v : ℕ) (s : soundBoard b ≡ true) where
-  low-written : writeBoard b 0x41 v ≡ listing (lowSet (b .ports .xdladr) v) b
+  low-written : writeBoard b 0x41 v ≡ listing (byteSet (b .ports .xdladr) 0 v) b
   unfolding portsWritten blitterWritten
   low-written = sym (write-done b 0x41 v s refl _ _ refl refl .1)
 
-  middle-written : writeBoard b 0x42 v ≡ listing (middleSet (b .ports .xdladr) v) b
+  middle-written : writeBoard b 0x42 v ≡ listing (byteSet (b .ports .xdladr) 1 v) b
   unfolding portsWritten blitterWritten
   middle-written = sym (write-done b 0x42 v s refl _ _ refl refl .1)
 
-  high-written : writeBoard b 0x43 v ≡ listing (highSet (b .ports .xdladr) v) b
+  high-written : writeBoard b 0x43 v ≡ listing (byteSet (b .ports .xdladr) 2 v) b
   unfolding portsWritten blitterWritten
   high-written = sym (write-done b 0x43 v s refl _ _ refl refl .1)
 
@@ -76,10 +76,10 @@ middle-of l m h p q = omega arith
 -- the three bytes of an address, written over any other
 module _ (x a : ℕ) (h : a ≤ 524287) where
   abbrev x1 : ℕ
-  x1 = lowSet x (a % 256)
+  x1 = byteSet x 0 (a % 256)
 
   abbrev x2 : ℕ
-  x2 = middleSet x1 (a / 256 % 256)
+  x2 = byteSet x1 1 (a / 256 % 256)
 
   x1-fits : x1 < 524288
   x1-fits = omega arith
@@ -87,7 +87,7 @@ module _ (x a : ℕ) (h : a ≤ 524287) where
   x2-fits : x2 < 524288
   x2-fits = omega arith
 
-  whole : highSet x2 (a / 65536) ≡ a
+  whole : byteSet x2 2 (a / 65536) ≡ a
   whole =
       let first : x1 % 256 ≡ a % 256 = low-of (a % 256) (x / 256 % 256) (x / 65536 % 8 % 8) (mod-lt a (omega arith)) in
       let low : x2 % 256 ≡ x1 % 256 = low-of (x1 % 256) (a / 256 % 256) (x1 / 65536 % 8 % 8) (mod-lt x1 (omega arith)) in

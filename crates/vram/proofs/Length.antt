@@ -1,6 +1,7 @@
 -- A board's length is a power of two and divides 524,288. So an access need not wrap at 524,288 first, and the length less one is a mask. Assumes nothing.
 use mathlib.Core.Path.{_≡_, refl, sym, ap, _∙_, subst}
-use mathlib.Core.Bool.{true, _&&_}
+use mathlib.Core.Bool.{true}
+use mathlib.Core.List.{[], _∷_}
 use mathlib.Core.Logic.{⊎-elim}
 use Prim.Native.Nat.{ℕ, suc, _-_, _*_, _/_, _%_, _^_, _≤_, _<_, _∣_}
 use native.Mathlib.Nat.{mod-mod-of-dvd, dvd-mul-left, pow-suc, lt-of-not-le, not-le-of-lt, eq-zero-or-pos, sub-add-cancel, le-of-suc-le-suc}
@@ -11,7 +12,7 @@ use lib.Count.{ones, ones-step}
 use lib.Dec.{eqb, leb}
 use lib.Pow.{pow-add, pow-lt}
 use borrow.Author.Tests.{eqb-true, leb-true}
-use Rattle.laws.proofs.Choice.{both}
+use Rattle.laws.proofs.Choice.{each-test}
 use Rattle.vram.specs.Memory.{goodLength, place}
 
 no-ones : ones 0 ≡ 0
@@ -54,9 +55,8 @@ pub record Good (L : ℕ) : Type 0 where
 
 pub good : (L : ℕ) → goodLength L ≡ true → Good L
 good L e =
-    let p = both (eqb (ones L) 1 && leb 16384 L) (leb L 524288) e in
-    let q = both (eqb (ones L) 1) (leb 16384 L) (p .0) in
-    record { one = eqb-true (ones L) 1 (q .0); least = leb-true 16384 L (q .1); most = leb-true L 524288 (p .1) }
+    let t = each-test (eqb (ones L) 1) (leb 16384 L ∷ leb L 524288 ∷ []) e in
+    record { one = eqb-true (ones L) 1 (t .0); least = leb-true 16384 L (t .1 .0); most = leb-true L 524288 (t .1 .1 .0) }
 
 -- the shortest is taken
 pub shortest : goodLength 16384 ≡ true

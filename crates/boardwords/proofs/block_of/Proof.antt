@@ -39,21 +39,7 @@ byte-requires-9 c κs = tt
 
 returns : tie.Need-returns
 unfolding blockOf
-returns c =
-    λ i.
-    record {
-      source = c .before .before .before .before .before .before .before .before .before .before .side-of .ensures i;
-      dest = c .before .before .before .before .before .before .before .before .before .side-of2 .ensures i;
-      width0 = c .before .before .before .before .before .before .before .before .byte .ensures i;
-      width1 = c .before .before .before .before .before .before .before .byte2 .ensures i;
-      height = c .before .before .before .before .before .before .byte3 .ensures i;
-      andmask = c .before .before .before .before .before .byte4 .ensures i;
-      xormask = c .before .before .before .before .byte5 .ensures i;
-      hitmask = c .before .before .before .byte6 .ensures i;
-      zoom = c .before .before .byte7 .ensures i;
-      pattern = c .before .byte8 .ensures i;
-      control = c .byte9 .ensures i;
-    }
+returns c = cc
 
 pub block-of-spec : {M : Type 1} → statement M
 block-of-spec =

@@ -11,12 +11,7 @@ blitter-of-requires c κs = tt
 
 returns : tie.Need-returns
 unfolding boardOf
-returns c =
-    λ i.
-    record {
-      ports = c .before .ports-of .ensures i;
-      blitter = c .blitter-of .ensures i;
-    }
+returns c = cc
 
 pub board-of-spec : {M : Type 1} → statement M
 board-of-spec = tie.close (tie.spec ports-of-requires blitter-of-requires returns)

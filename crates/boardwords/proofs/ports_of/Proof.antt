@@ -26,17 +26,7 @@ byte-requires-5 c κs = tt
 
 returns : tie.Need-returns
 unfolding portsOf
-returns c =
-    λ i.
-    record {
-      video = c .before .before .before .before .before .before .byte .ensures i;
-      xdladr = c .before .before .before .before .before .word .ensures i;
-      bladr = c .before .before .before .before .word2 .ensures i;
-      p0 = c .before .before .before .byte2 .ensures i;
-      p1 = c .before .before .byte3 .ensures i;
-      p2 = c .before .byte4 .ensures i;
-      p3 = c .byte5 .ensures i;
-    }
+returns c = cc
 
 pub ports-of-spec : {M : Type 1} → statement M
 ports-of-spec =

@@ -1,6 +1,5 @@
 -- `boardwords::put_block` meets its contract: the bytes stand in the manual's order. Assumes nothing.
 use mathlib.Core.Path.{refl}
-use native.Mathlib.Omega.{arith}
 use borrow.Author.Tests.{lt-leb}
 use Rattle.words.proofs.Laid.{laid-three}
 use Rattle.boardwords.specs.Board.{sideWords, shapeWords}

@@ -39,16 +39,7 @@ byte-requires-6 c κs = tt
 
 returns : tie.Need-returns
 unfolding sideOf
-returns c =
-    λ i.
-    record {
-      adr0 = c .before .before .before .before .before .byte .ensures i;
-      adr1 = c .before .before .before .before .byte2 .ensures i;
-      adr2 = c .before .before .before .byte3 .ensures i;
-      y0 = c .before .before .byte4 .ensures i;
-      y1 = c .before .byte5 .ensures i;
-      x = c .byte6 .ensures i;
-    }
+returns c = cc
 
 pub side-of-spec : {M : Type 1} → statement M
 side-of-spec =

@@ -26,13 +26,18 @@ same-length : tie.Need-same-length
 same-length c = c .before .before .before .mem .given
 
 returns : tie.Need-returns
-returns c = (ap numberTold (ap outcomeTold (sym (c .enum-told .given .1)) ∙ c .before .before .before .before .install .ensures .0), c .before .before .before .before .install .ensures .1)
+returns c =
+    let laid = c .before .before .before .before .install .ensures in
+    (ap numberTold (ap outcomeTold (sym (c .enum-told .given .1)) ∙ laid .0), laid .1)
 
 same-length-2 : tie.Need-same-length-2
 same-length-2 c = c .before .before .before .before .before .mem .given
 
 returns-2 : tie.Need-returns-2
-returns-2 c = (c .number .ensures ∙ alone _ ∙ ap numberTold (ap outcomeTold (sym (c .before .before .told .given .1)) ∙ c .before .before .before .before .before .before .install .ensures .0), c .before .before .before .before .before .before .install .ensures .1)
+returns-2 c =
+    let t = c .before .before in
+    let laid = t .before .before .before .before .install .ensures in
+    (c .number .ensures ∙ alone _ ∙ ap numberTold (ap outcomeTold (sym (t .told .given .1)) ∙ laid .0), laid .1)
 
 pub deskboard-install-spec : {M : Type 1} → statement M
 deskboard-install-spec =

@@ -5,7 +5,7 @@ use Rattle.frame.specs.Frame.{lineTold}
 use Rattle.framewords.specs.Frame.{settingsSize}
 use Rattle.capi.specs.Calls.{lineCall}
 use Rattle.capi.proofs.Told.{alone, no-number, no-change, no-report, short}
-use Rattle.capi.proofs.Passed.{line-passed, line-done}
+use Rattle.capi.proofs.Passed.{on-frame, line-passed, line-done}
 use borrow.Author.Needs.{needs}
 use Rattle.capi.proofs.deskboard_next_line.Statement.{statement}
 use Rattle.capi.proofs.deskboard_next_line.Tie as tie
@@ -29,7 +29,10 @@ same-length c = search needs
 
 returns-3 : tie.Need-returns-3
 unfolding lineCall
-returns-3 c = simp (sym (c .before .before .before .before .before .good-length .ensures) ∙ not-false _ (c .before .before .before .before .if1 .left), le-leb _ _ (c .before .before .before .if2 .left), sym (c .before .frame-fits .ensures) ∙ not-true _ (c .if3 .taken)) (refl, (refl, refl))
+returns-3 c =
+    let l = c .before .before .before in
+    let good = sym (l .before .before .good-length .ensures) ∙ not-false _ (l .before .if1 .left) in
+    simp (good, le-leb _ _ (l .if2 .left), sym (c .before .frame-fits .ensures) ∙ not-true _ (c .if3 .taken)) (refl, (refl, refl))
 
 frame-of-requires : tie.Need-frame-of-requires
 frame-of-requires c κs = tt
@@ -45,13 +48,15 @@ same-length-2 c = search needs
 
 returns-4 : tie.Need-returns-4
 returns-4 c =
-    let f = c .before .before .before .before .before in
     let t = c .before .before in
-    let good = sym (f .before .before .before .before .before .before .before .good-length .ensures) ∙ not-false _ (f .before .before .before .before .before .before .if1 .left) in
-    let fits = sym (f .before .before .before .frame-fits .ensures) ∙ not-false _ (f .before .before .if3 .left) in
-    let t = sym (ap lineTold (t .told .given .1)) ∙ t .before .before .next-line .ensures .0 in
-    let e = line-passed _ _ _ _ good (f .before .before .before .before .before .if2 .left) fits (f .frame-of .ensures) _ t ∙ short settingsSize (f .before .before .before .before .before .before .before .before .before .before .before .args .settings .now) (c .if4 .taken) _ in
-    (no-number _ _ _ e _ refl, (no-change _ _ _ e _ _, no-report _ _ _ e _ _))
+    let f = t .before .before .before in
+    let e = f .before .before in
+    let l = e .before .before .before in
+    let good = sym (l .before .before .good-length .ensures) ∙ not-false _ (l .before .if1 .left) in
+    let o = on-frame (l .if2 .left) (e .before .frame-fits .ensures) (e .if3 .left) (f .frame-of .ensures) in
+    let u = sym (ap lineTold (t .told .given .1)) ∙ t .before .before .next-line .ensures .0 in
+    let p = line-passed o _ _ good _ u ∙ short settingsSize (l .before .before .before .before .before .before .args .settings .now) (c .if4 .taken) _ in
+    (no-number _ _ _ p _ refl, (no-change _ _ _ p _ _, no-report _ _ _ p _ _))
 
 put-frame-requires : tie.Need-put-frame-requires
 put-frame-requires c κs = tt
@@ -77,25 +82,29 @@ same-length-4 c = search needs
 returns-5 : tie.Need-returns-5
 returns-5 c =
     let w = c .before .before .before .before .before .before in
-    let f = c .before .before .before .before .before .before .before .before .before .before .before .before .before in
-    let t = c .before .before .before .before .before .before .before .before .before .before in
-    let good = sym (f .before .before .before .before .before .before .before .good-length .ensures) ∙ not-false _ (f .before .before .before .before .before .before .if1 .left) in
-    let fits = sym (f .before .before .before .frame-fits .ensures) ∙ not-false _ (f .before .before .if3 .left) in
+    let t = w .before .before .before .before in
+    let f = t .before .before .before in
+    let e = f .before .before in
+    let l = e .before .before .before in
+    let good = sym (l .before .before .good-length .ensures) ∙ not-false _ (l .before .if1 .left) in
+    let o = on-frame (l .if2 .left) (e .before .frame-fits .ensures) (e .if3 .left) (f .frame-of .ensures) in
     let u = sym (ap lineTold (t .told .given .1)) ∙ t .before .before .next-line .ensures .0 in
-    line-done _ _ _ _ good (f .before .before .before .before .before .if2 .left) fits (f .frame-of .ensures) (w .before .before .if4 .left) _ _ _ _ u (t .before .before .next-line .ensures .1) (w .put-frame .ensures) (c .before .before .put-settings .ensures)
+    line-done o _ _ good (w .before .before .if4 .left) _ _ _ _ u (t .before .before .next-line .ensures .1) (w .put-frame .ensures) (c .before .before .put-settings .ensures)
 
 same-length-5 : tie.Need-same-length-5
 same-length-5 c = search needs
 
 returns-6 : tie.Need-returns-6
 returns-6 c =
-    let f = c .before .before .before .before .before in
     let t = c .before .before in
-    let good = sym (f .before .before .before .before .before .before .before .good-length .ensures) ∙ not-false _ (f .before .before .before .before .before .before .if1 .left) in
-    let fits = sym (f .before .before .before .frame-fits .ensures) ∙ not-false _ (f .before .before .if3 .left) in
-    let t = sym (ap lineTold (t .told2 .given .1)) ∙ t .before .before .next-line .ensures .0 in
-    let e = line-passed _ _ _ _ good (f .before .before .before .before .before .if2 .left) fits (f .frame-of .ensures) _ t in
-    (no-number _ _ _ e _ (c .number .ensures ∙ alone _), (no-change _ _ _ e _ _, no-report _ _ _ e _ _))
+    let f = t .before .before .before in
+    let e = f .before .before in
+    let l = e .before .before .before in
+    let good = sym (l .before .before .good-length .ensures) ∙ not-false _ (l .before .if1 .left) in
+    let o = on-frame (l .if2 .left) (e .before .frame-fits .ensures) (e .if3 .left) (f .frame-of .ensures) in
+    let u = sym (ap lineTold (t .told2 .given .1)) ∙ t .before .before .next-line .ensures .0 in
+    let p = line-passed o _ _ good _ u in
+    (no-number _ _ _ p _ (c .number .ensures ∙ alone _), (no-change _ _ _ p _ _, no-report _ _ _ p _ _))
 
 pub deskboard-next-line-spec : {M : Type 1} → statement M
 deskboard-next-line-spec =

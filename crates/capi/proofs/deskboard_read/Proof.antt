@@ -1,10 +1,10 @@
 -- `capi::deskboard_read` meets its contract. Assumes nothing.
 use mathlib.Core.Path.{refl, sym, ap, _∙_}
-use borrow.Author.Tests.{lt-leb, le-leb, not-true, not-false}
+use borrow.Author.Tests.{lt-leb, le-leb, not-true}
 use Rattle.board.specs.Board.{readTold}
 use Rattle.capi.specs.Calls.{readCall}
 use Rattle.capi.proofs.Told.{alone, no-number, no-report, done-number, done-report, roomy, short}
-use Rattle.capi.proofs.Passed.{read-passed}
+use Rattle.capi.proofs.Passed.{on-board, read-passed}
 use borrow.Author.Needs.{needs}
 use Rattle.capi.proofs.deskboard_read.Statement.{statement}
 use Rattle.capi.proofs.deskboard_read.Tie as tie
@@ -31,11 +31,11 @@ enum-known-told c = search needs
 
 returns-3 : tie.Need-returns-3
 returns-3 c =
-    let b = c .before .before .before .before .before in
     let t = c .before .before in
-    let fits = sym (b .before .before .board-fits .ensures) ∙ not-false _ (b .before .if2 .left) in
-    let p = read-passed _ _ (b .before .before .before .if1 .left) fits (b .board-of .ensures) _ _ _ (sym (ap readTold (t .told .given .1)) ∙ t .before .before .read .ensures) in
-    let e = p ∙ short 1 (t .before .before .before .before .before .before .before .before .before .args .report .now) (c .if3 .taken) _ in
+    let b = t .before .before .before in
+    let o = on-board (b .before .before .before .if1 .left) (b .before .before .board-fits .ensures) (b .before .if2 .left) (b .board-of .ensures) in
+    let p = read-passed o _ _ _ (sym (ap readTold (t .told .given .1)) ∙ t .before .before .read .ensures) in
+    let e = p ∙ short 1 (b .before .before .before .before .before .before .args .report .now) (c .if3 .taken) _ in
     (no-number _ _ _ e _ refl, no-report _ _ _ e _ _)
 
 cast-t18 : tie.Need-cast-t18
@@ -61,19 +61,20 @@ same-length c = search needs
 
 returns-4 : tie.Need-returns-4
 returns-4 c =
-    let b = c .before .before .before .before .before .before .before .before .before .before in
-    let t = c .before .before .before .before .before .before .before in
-    let fits = sym (b .before .before .board-fits .ensures) ∙ not-false _ (b .before .if2 .left) in
-    let p = read-passed _ _ (b .before .before .before .if1 .left) fits (b .board-of .ensures) _ _ _ (sym (ap readTold (t .told .given .1)) ∙ t .before .before .read .ensures) in
-    let e = p ∙ roomy 1 (t .before .before .before .before .before .before .before .before .before .args .report .now) _ (c .before .before .before .before .before .if3 .left) in
+    let l = c .before .before .before .before .before in
+    let t = l .before .before in
+    let b = t .before .before .before in
+    let o = on-board (b .before .before .before .if1 .left) (b .before .before .board-fits .ensures) (b .before .if2 .left) (b .board-of .ensures) in
+    let p = read-passed o _ _ _ (sym (ap readTold (t .told .given .1)) ∙ t .before .before .read .ensures) in
+    let e = p ∙ roomy 1 (b .before .before .before .before .before .before .args .report .now) _ (l .if3 .left) in
     (done-number _ _ e, done-report _ _ e _ _ _ (c .before .before .lay .ensures))
 
 returns-5 : tie.Need-returns-5
 returns-5 c =
-    let b = c .before .before .before .before .before in
     let t = c .before .before in
-    let fits = sym (b .before .before .board-fits .ensures) ∙ not-false _ (b .before .if2 .left) in
-    let p = read-passed _ _ (b .before .before .before .if1 .left) fits (b .board-of .ensures) _ _ _ (sym (ap readTold (t .told2 .given .1)) ∙ t .before .before .read .ensures) in
+    let b = t .before .before .before in
+    let o = on-board (b .before .before .before .if1 .left) (b .before .before .board-fits .ensures) (b .before .if2 .left) (b .board-of .ensures) in
+    let p = read-passed o _ _ _ (sym (ap readTold (t .told2 .given .1)) ∙ t .before .before .read .ensures) in
     (no-number _ _ _ p _ (c .number .ensures ∙ alone _), no-report _ _ _ p _ _)
 
 pub deskboard-read-spec : {M : Type 1} → statement M

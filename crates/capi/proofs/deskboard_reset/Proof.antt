@@ -1,8 +1,8 @@
 -- `capi::deskboard_reset` meets its contract. Assumes nothing.
 use mathlib.Core.Path.{refl, sym, _∙_}
-use borrow.Author.Tests.{lt-leb, le-leb, not-true, not-false}
+use borrow.Author.Tests.{lt-leb, le-leb, not-true}
 use Rattle.capi.specs.Calls.{resetCall}
-use Rattle.capi.proofs.Passed.{reset-done}
+use Rattle.capi.proofs.Passed.{on-board, reset-done}
 use Rattle.capi.proofs.deskboard_reset.Statement.{statement}
 use Rattle.capi.proofs.deskboard_reset.Tie as tie
 
@@ -35,10 +35,11 @@ same-length-2 c = c .before .board .given
 returns-3 : tie.Need-returns-3
 returns-3 c =
     let b = c .before .before .before .before .before in
-    let fits = sym (b .before .before .before .board-fits .ensures) ∙ not-false _ (b .before .before .if2 .left) in
+    let t = b .before .before in
+    let o = on-board (t .before .before .before .if1 .left) (t .before .board-fits .ensures) (t .if2 .left) (b .board-of .ensures) in
     let s = c .before .before .settle .ensures in
     let r = c .before .before .before .before .reset .ensures in
-    reset-done _ _ (b .before .before .before .before .before .if1 .left) fits (b .board-of .ensures) _ _ _ _ (s .0) (s .1) (r .0) (r .1)
+    reset-done o _ _ _ _ (s .0) (s .1) (r .0) (r .1)
 
 pub deskboard-reset-spec : {M : Type 1} → statement M
 deskboard-reset-spec =

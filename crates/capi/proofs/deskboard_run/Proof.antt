@@ -2,7 +2,7 @@
 use mathlib.Core.Path.{refl, sym, _∙_}
 use borrow.Author.Tests.{lt-leb, le-leb, not-true, not-false}
 use Rattle.capi.specs.Calls.{runCall}
-use Rattle.capi.proofs.Passed.{run-done, run-short}
+use Rattle.capi.proofs.Passed.{on-board, run-done, run-short}
 use borrow.Author.Needs.{needs}
 use Rattle.capi.proofs.deskboard_run.Statement.{statement}
 use Rattle.capi.proofs.deskboard_run.Tie as tie
@@ -26,7 +26,10 @@ same-length c = search needs
 
 returns-3 : tie.Need-returns-3
 unfolding runCall
-returns-3 c = simp (sym (c .before .before .before .before .before .good-length .ensures) ∙ not-false _ (c .before .before .before .before .if1 .left), le-leb _ _ (c .before .before .before .if2 .left), sym (c .before .board-fits .ensures) ∙ not-true _ (c .if3 .taken)) (refl, (refl, (refl, refl)))
+returns-3 c =
+    let l = c .before .before .before in
+    let good = sym (l .before .before .good-length .ensures) ∙ not-false _ (l .before .if1 .left) in
+    simp (good, le-leb _ _ (l .if2 .left), sym (c .before .board-fits .ensures) ∙ not-true _ (c .if3 .taken)) (refl, (refl, (refl, refl)))
 
 run-unreported-requires : tie.Need-run-unreported-requires
 run-unreported-requires c κs = tt
@@ -37,9 +40,9 @@ same-length-2 c = search needs
 returns-4 : tie.Need-returns-4
 returns-4 c =
     let e = c .before .before .before in
-    let good = sym (e .before .before .before .before .before .good-length .ensures) ∙ not-false _ (e .before .before .before .before .if1 .left) in
-    let fits = sym (e .before .board-fits .ensures) ∙ not-false _ (e .if3 .left) in
-    run-short _ _ (e .before .before .before .if2 .left) fits refl _ _ _ good (c .before .before .if4 .taken) _ (c .run-unreported .ensures)
+    let l = e .before .before .before in
+    let good = sym (l .before .before .good-length .ensures) ∙ not-false _ (l .before .if1 .left) in
+    run-short (on-board (l .if2 .left) (e .before .board-fits .ensures) (e .if3 .left) refl) _ _ _ good (c .before .before .if4 .taken) _ (c .run-unreported .ensures)
 
 board-of-requires : tie.Need-board-of-requires
 board-of-requires c κs = tt
@@ -64,11 +67,12 @@ returns-5 c =
     let r = c .before .before .before .before .before .before .before .before .before in
     let f = r .before .before .before .before in
     let e = f .before in
-    let good = sym (e .before .before .before .before .before .good-length .ensures) ∙ not-false _ (e .before .before .before .before .if1 .left) in
-    let fits = sym (e .before .board-fits .ensures) ∙ not-false _ (e .if3 .left) in
+    let l = e .before .before .before in
+    let good = sym (l .before .before .good-length .ensures) ∙ not-false _ (l .before .if1 .left) in
+    let o = on-board (l .if2 .left) (e .before .board-fits .ensures) (e .if3 .left) (r .before .before .board-of .ensures) in
     let s = c .before .before .before .before .settle-run .ensures in
     let ran = r .run .ensures in
-    run-done _ _ (e .before .before .before .if2 .left) fits (r .before .before .board-of .ensures) _ _ _ good (f .if4 .left) _ _ _ _ _ _ (s .0) (s .1 .0) (s .1 .1) (ran .0) (ran .1 .0) (ran .1 .1)
+    run-done o _ _ _ good (f .if4 .left) _ _ _ _ _ _ (s .0) (s .1 .0) (s .1 .1) (ran .0) (ran .1 .0) (ran .1 .1)
 
 pub deskboard-run-spec : {M : Type 1} → statement M
 deskboard-run-spec =

@@ -1,10 +1,10 @@
 -- `capi::deskboard_start` meets its contract. Assumes nothing.
 use mathlib.Core.Path.{refl, sym, ap, _∙_}
-use borrow.Author.Tests.{lt-leb, le-leb, not-true, not-false}
+use borrow.Author.Tests.{lt-leb, le-leb, not-true}
 use Rattle.frame.specs.Frame.{startTold}
 use Rattle.capi.specs.Calls.{startCall}
 use Rattle.capi.proofs.Told.{alone, no-number, no-report, done-number, done-report}
-use Rattle.capi.proofs.Passed.{start-passed}
+use Rattle.capi.proofs.Passed.{on-board, start-passed}
 use borrow.Author.Needs.{needs}
 use Rattle.capi.proofs.deskboard_start.Statement.{statement}
 use Rattle.capi.proofs.deskboard_start.Tie as tie
@@ -50,18 +50,20 @@ same-length c = search needs
 
 returns-4 : tie.Need-returns-4
 returns-4 c =
-    let b = c .before .before .before .before .before .before .before .before in
     let t = c .before .before .before .before .before in
-    let fits = sym (b .before .before .board-fits .ensures) ∙ not-false _ (b .before .if3 .left) in
-    let e = start-passed _ _ (b .before .before .before .before .if1 .left) fits (b .board-of .ensures) _ (b .before .before .before .if2 .left) _ (sym (ap startTold (t .told .given .1)) ∙ t .before .before .start .ensures) in
+    let b = t .before .before .before in
+    let l = b .before .before .before in
+    let o = on-board (l .before .if1 .left) (b .before .before .board-fits .ensures) (b .before .if3 .left) (b .board-of .ensures) in
+    let e = start-passed o _ (l .if2 .left) _ (sym (ap startTold (t .told .given .1)) ∙ t .before .before .start .ensures) in
     (done-number _ _ e, done-report _ _ e _ _ _ (c .before .before .put-frame .ensures))
 
 returns-5 : tie.Need-returns-5
 returns-5 c =
-    let b = c .before .before .before .before .before in
     let t = c .before .before in
-    let fits = sym (b .before .before .board-fits .ensures) ∙ not-false _ (b .before .if3 .left) in
-    let e = start-passed _ _ (b .before .before .before .before .if1 .left) fits (b .board-of .ensures) _ (b .before .before .before .if2 .left) _ (sym (ap startTold (t .told2 .given .1)) ∙ t .before .before .start .ensures) in
+    let b = t .before .before .before in
+    let l = b .before .before .before in
+    let o = on-board (l .before .if1 .left) (b .before .before .board-fits .ensures) (b .before .if3 .left) (b .board-of .ensures) in
+    let e = start-passed o _ (l .if2 .left) _ (sym (ap startTold (t .told2 .given .1)) ∙ t .before .before .start .ensures) in
     (no-number _ _ _ e _ (c .number .ensures ∙ alone _), no-report _ _ _ e _ _)
 
 pub deskboard-start-spec : {M : Type 1} → statement M

@@ -33,7 +33,9 @@ same-length-2 : tie.Need-same-length-2
 same-length-2 c = c .before .report .given
 
 returns : tie.Need-returns
-returns c = simp (c .before .before .before .before .before .before .before .before .before .before .told .given .1) (refl, (c .before .before .before .before .before .before .before .put-board .ensures, c .before .before .lay .ensures))
+returns c =
+    let b = c .before .before .before .before .before .before .before in
+    simp (b .before .before .before .told .given .1) (refl, (b .put-board .ensures, c .before .before .lay .ensures))
 
 returns-2 : tie.Need-returns-2
 returns-2 c = simp (c .before .before .told2 .given .1) (c .number .ensures ∙ alone _, (refl, refl))

@@ -2,8 +2,6 @@
 use borrow.Author.Needs.{needs}
 use Rattle.board.proofs.Board.new.Statement.{statement}
 use Rattle.board.proofs.Board.new.Tie as tie
-use Rattle.blitter.proofs.Blitter.new.Reads as Blitter-new-reads
-use Rattle.board.proofs.Ports.new.Reads as Ports-new-reads
 
 new-requires : tie.Need-new-requires
 new-requires c κs = search needs

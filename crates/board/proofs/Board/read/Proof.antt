@@ -10,19 +10,30 @@ sound-requires : tie.Need-sound-requires
 sound-requires c κs = search needs
 
 returns : tie.Need-returns
-returns c = read-state (c .before .before .args .self) (c .before .before .args .offset) 0 (sym (c .before .sound .ensures) ∙ not-true _ (c .if1 .taken))
+returns c =
+    let s = c .before .before .args in
+    read-state (s .self) (s .offset) 0 (sym (c .before .sound .ensures) ∙ not-true _ (c .if1 .taken))
 
 is-register-requires : tie.Need-is-register-requires
 is-register-requires c κs = search needs
 
 returns-2 : tie.Need-returns-2
-returns-2 c = read-register (c .before .before .before .before .args .self) (c .before .before .before .before .args .offset) 0 (sym (c .before .before .before .sound .ensures) ∙ not-false _ (c .before .before .if1 .left)) (sym (c .before .is-register .ensures) ∙ not-true _ (c .if2 .taken))
+returns-2 c =
+    let m = c .before .before in
+    let s = m .before .before .args in
+    read-register (s .self) (s .offset) 0 (sym (m .before .sound .ensures) ∙ not-false _ (m .if1 .left))
+    (sym (c .before .is-register .ensures) ∙ not-true _ (c .if2 .taken))
 
 read-byte-requires : tie.Need-read-byte-requires
 read-byte-requires c κs = search needs
 
 returns-3 : tie.Need-returns-3
-returns-3 c = read-done (c .before .before .before .before .before .args .self) (c .before .before .before .before .before .args .offset) _ (sym (c .before .before .before .before .sound .ensures) ∙ not-false _ (c .before .before .before .if1 .left)) (sym (c .before .before .is-register .ensures) ∙ not-false _ (c .before .if2 .left)) (c .read-byte .ensures)
+returns-3 c =
+    let n = c .before in
+    let m = n .before .before in
+    let s = m .before .before .args in
+    read-done (s .self) (s .offset) _ (sym (m .before .sound .ensures) ∙ not-false _ (m .if1 .left))
+    (sym (n .before .is-register .ensures) ∙ not-false _ (n .if2 .left)) (c .read-byte .ensures)
 
 pub read-spec : {M : Type 1} → statement M
 read-spec =

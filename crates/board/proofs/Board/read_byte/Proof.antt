@@ -1,6 +1,6 @@
-use Rattle.laws.proofs.Choice.{bool-byte}
 -- `Board::read_byte` meets its contract: one arm a register. Assumes nothing.
 use borrow.Author.Tests.{ne-eqb}
+use Rattle.laws.proofs.Choice.{bool-byte}
 use Rattle.board.specs.Board.{readByte}
 use borrow.Author.Needs.{needs}
 use Rattle.board.proofs.Board.read_byte.Statement.{statement}
@@ -43,7 +43,11 @@ returns-8 c = rw (c .match .keys8)
 
 returns-9 : tie.Need-returns-9
 unfolding readByte
-returns-9 c = let r = c .match .rest in rw (ne-eqb _ 0x40 (r .0 .0 .0 .0 .0 .0 .0 .1), ne-eqb _ 0x41 (r .0 .0 .0 .0 .0 .0 .1), ne-eqb _ 0x4A (r .0 .0 .0 .0 .0 .1), ne-eqb _ 0x50 (r .0 .0 .0 .0 .1), ne-eqb _ 0x53 (r .0 .0 .0 .1), ne-eqb _ 0x54 (r .0 .0 .1), ne-eqb _ 0x5E (r .0 .1), ne-eqb _ 0x5F (r .1))
+returns-9 c =
+    let r = c .match .rest in
+    let q = r .0 .0 .0 .0 in
+    rw (ne-eqb _ 0x40 (q .0 .0 .0 .1), ne-eqb _ 0x41 (q .0 .0 .1), ne-eqb _ 0x4A (q .0 .1), ne-eqb _ 0x50 (q .1))
+    (rw (ne-eqb _ 0x53 (r .0 .0 .0 .1), ne-eqb _ 0x54 (r .0 .0 .1), ne-eqb _ 0x5E (r .0 .1), ne-eqb _ 0x5F (r .1)))
 
 pub read-byte-spec : {M : Type 1} → statement M
 read-byte-spec =

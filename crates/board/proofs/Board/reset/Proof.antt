@@ -19,7 +19,10 @@ interrupts-requires : tie.Need-interrupts-requires
 interrupts-requires c κs = search needs
 
 returns-2 : tie.Need-returns-2
-returns-2 c = reset-done (c .before .before .before .before .before .before .args .self) _ _ (sym (c .before .before .before .before .before .sound .ensures) ∙ not-false _ (c .before .before .before .before .if1 .left)) (c .before .before .stop .ensures) (c .before .interrupts .ensures)
+returns-2 c =
+    let m = c .before .before .before .before in
+    reset-done (m .before .before .args .self) _ _ (sym (m .before .sound .ensures) ∙ not-false _ (m .if1 .left)) (c .before .before .stop .ensures)
+    (c .before .interrupts .ensures)
 
 pub reset-spec : {M : Type 1} → statement M
 reset-spec =

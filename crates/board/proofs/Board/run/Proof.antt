@@ -10,13 +10,19 @@ good-length-requires : tie.Need-good-length-requires
 good-length-requires c κs = search needs
 
 returns : tie.Need-returns
-returns c = no-board (c .before .before .before .args .self) (c .before .before .before .args .mem .now) (c .before .before .before .args .budget) (sym (c .before .good-length .ensures) ∙ not-true _ (c .if1 .taken))
+returns c =
+    let s = c .before .before .before .args in
+    no-board (s .self) (s .mem .now) (s .budget) (sym (c .before .good-length .ensures) ∙ not-true _ (c .if1 .taken))
 
 sound-requires : tie.Need-sound-requires
 sound-requires c κs = search needs
 
 returns-2 : tie.Need-returns-2
-returns-2 c = no-ports (c .before .before .before .before .before .before .args .self) (c .before .before .before .before .before .before .args .mem .now) (c .before .before .before .before .before .before .args .budget) (sym (c .before .before .before .before .good-length .ensures) ∙ not-false _ (c .before .before .before .if1 .left)) (sym (c .before .sound .ensures) ∙ not-true _ (c .if2 .taken))
+returns-2 c =
+    let m = c .before .before .before in
+    let s = m .before .before .before .args in
+    no-ports (s .self) (s .mem .now) (s .budget) (sym (m .before .good-length .ensures) ∙ not-false _ (m .if1 .left))
+    (sym (c .before .sound .ensures) ∙ not-true _ (c .if2 .taken))
 
 run-requires : tie.Need-run-requires
 run-requires c κs = search needs
@@ -25,7 +31,13 @@ same-length : tie.Need-same-length
 same-length c = search needs
 
 returns-3 : tie.Need-returns-3
-returns-3 c = as-blitter (c .before .before .before .before .before .before .before .before .before .before .before .before .args .self) (c .before .before .before .before .before .before .before .before .before .before .before .before .args .mem .now) (c .before .before .before .before .before .before .before .before .before .before .before .before .args .budget) (sym (c .before .before .before .before .before .before .before .before .before .before .good-length .ensures) ∙ not-false _ (c .before .before .before .before .before .before .before .before .before .if1 .left)) (sym (c .before .before .before .before .before .before .before .sound .ensures) ∙ not-false _ (c .before .before .before .before .before .before .if2 .left)) _ _ _ (c .before .before .before .run .ensures .0) (c .before .before .before .run .ensures .1 .0) (c .before .before .before .run .ensures .1 .1)
+returns-3 c =
+    let ran = c .before .before .before .run .ensures in
+    let n = c .before .before .before .before .before .before in
+    let m = n .before .before .before in
+    let s = m .before .before .before .args in
+    as-blitter (s .self) (s .mem .now) (s .budget) (sym (m .before .good-length .ensures) ∙ not-false _ (m .if1 .left))
+    (sym (n .before .sound .ensures) ∙ not-false _ (n .if2 .left)) _ _ _ (ran .0) (ran .1 .0) (ran .1 .1)
 
 pub run-spec : {M : Type 1} → statement M
 run-spec =

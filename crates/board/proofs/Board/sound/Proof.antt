@@ -3,8 +3,6 @@ use Rattle.board.specs.Board.{soundBoard}
 use borrow.Author.Needs.{needs}
 use Rattle.board.proofs.Board.sound.Statement.{statement}
 use Rattle.board.proofs.Board.sound.Tie as tie
-use Rattle.blitter.proofs.Blitter.sound.Reads as Blitter-sound-reads
-use Rattle.board.proofs.Ports.sound.Reads as Ports-sound-reads
 
 sound-requires : tie.Need-sound-requires
 sound-requires c κs = search needs

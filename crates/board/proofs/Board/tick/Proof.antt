@@ -12,7 +12,12 @@ same-length : tie.Need-same-length
 same-length c = search needs
 
 returns : tie.Need-returns
-returns c = (c .before .before .run .ensures .0 ∙ tick-answer (c .before .before .before .before .before .args .self) (c .before .before .before .before .before .args .mem .now), (c .before .before .run .ensures .1 .0 ∙ tick-board (c .before .before .before .before .before .args .self) (c .before .before .before .before .before .args .mem .now), c .before .before .run .ensures .1 .1 ∙ tick-memory (c .before .before .before .before .before .args .self) (c .before .before .before .before .before .args .mem .now)))
+returns c =
+    let ran = c .before .before .run .ensures in
+    let s = c .before .before .before .before .before .args in
+    let b = s .self in
+    let mem = s .mem .now in
+    (ran .0 ∙ tick-answer b mem, (ran .1 .0 ∙ tick-board b mem, ran .1 .1 ∙ tick-memory b mem))
 
 pub tick-spec : {M : Type 1} → statement M
 tick-spec = tie.close (tie.spec run-requires same-length returns)

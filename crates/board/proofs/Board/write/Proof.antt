@@ -10,13 +10,19 @@ sound-requires : tie.Need-sound-requires
 sound-requires c κs = search needs
 
 returns : tie.Need-returns
-returns c = write-state (c .before .before .args .self) (c .before .before .args .offset) (c .before .before .args .value) (sym (c .before .sound .ensures) ∙ not-true _ (c .if1 .taken))
+returns c =
+    let s = c .before .before .args in
+    write-state (s .self) (s .offset) (s .value) (sym (c .before .sound .ensures) ∙ not-true _ (c .if1 .taken))
 
 is-register-requires : tie.Need-is-register-requires
 is-register-requires c κs = search needs
 
 returns-2 : tie.Need-returns-2
-returns-2 c = write-register (c .before .before .before .before .args .self) (c .before .before .before .before .args .offset) (c .before .before .before .before .args .value) (sym (c .before .before .before .sound .ensures) ∙ not-false _ (c .before .before .if1 .left)) (sym (c .before .is-register .ensures) ∙ not-true _ (c .if2 .taken))
+returns-2 c =
+    let m = c .before .before in
+    let s = m .before .before .args in
+    write-register (s .self) (s .offset) (s .value) (sym (m .before .sound .ensures) ∙ not-false _ (m .if1 .left))
+    (sym (c .before .is-register .ensures) ∙ not-true _ (c .if2 .taken))
 
 write-requires : tie.Need-write-requires
 write-requires c κs = search needs
@@ -25,7 +31,12 @@ blitter-write-requires : tie.Need-blitter-write-requires
 blitter-write-requires c κs = search needs
 
 returns-3 : tie.Need-returns-3
-returns-3 c = write-done (c .before .before .before .before .before .before .before .args .self) (c .before .before .before .before .before .before .before .args .offset) (c .before .before .before .before .before .before .before .args .value) (sym (c .before .before .before .before .before .before .sound .ensures) ∙ not-false _ (c .before .before .before .before .before .if1 .left)) (sym (c .before .before .before .before .is-register .ensures) ∙ not-false _ (c .before .before .before .if2 .left)) _ _ (c .before .write .ensures) (c .blitter-write .ensures)
+returns-3 c =
+    let n = c .before .before .before in
+    let m = n .before .before in
+    let s = m .before .before .args in
+    write-done (s .self) (s .offset) (s .value) (sym (m .before .sound .ensures) ∙ not-false _ (m .if1 .left))
+    (sym (n .before .is-register .ensures) ∙ not-false _ (n .if2 .left)) _ _ (c .before .write .ensures) (c .blitter-write .ensures)
 
 pub write-spec : {M : Type 1} → statement M
 write-spec =
