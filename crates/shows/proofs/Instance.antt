@@ -10,6 +10,7 @@ use lib.ListN.{length, replicate, length-replicate}
 use borrow.Author.Tests.{ltb-true}
 use Rattle.laws.proofs.Choice.{both}
 use Rattle.refusal.specs.Sheet.{Told, done}
+use Rattle.vram.specs.Memory.{Bytes}
 use Rattle.vram.specs.Install.{installMemory}
 use Rattle.vram.proofs.Blank.{blank, blank-good}
 use Rattle.settings.specs.Settings.{off}
@@ -20,7 +21,6 @@ use Rattle.blitter.specs.State.{soundBlitter}
 use Rattle.board.specs.Board.{newBoard, soundBoard}
 use Rattle.item.specs.Item.{fullAt, runningAt, soundFull, soundRunning, fitted, itemAt}
 use Rattle.plan.specs.Plan.{good, parseFrom, rest, parse, itemsOf}
-use Rattle.plan.specs.Rules.{Bytes}
 use Rattle.plan.specs.Xdl.{fullRecord, runningRecord, bytesOf}
 use Rattle.plan.specs.Meaning.{fullSettings, runningSettings, meaningFrom, planMeans}
 use Rattle.shows.specs.Shows.{frameStarted, lineOf, Desk, Valid, listOf}

@@ -6,7 +6,7 @@ use native.Mathlib.Omega.{arith}
 use lib.ListN.{length, take, drop, set}
 use lib.Seq.{take-at}
 use Rattle.refusal.specs.Sheet.{Told, done}
-use Rattle.vram.specs.Memory.{goodLength, place}
+use Rattle.vram.specs.Memory.{Bytes, goodLength, place}
 use Rattle.vram.specs.Install.{poured, installAnswer, installMemory}
 use Rattle.vram.proofs.ReadBack as install
 use Rattle.board.specs.declared.Board.{Board}
@@ -15,7 +15,6 @@ use Rattle.frame.specs.declared.Frame.{Frame}
 use Rattle.frame.proofs.Sound.{sound-start}
 use Rattle.item.specs.declared.Item.{Item}
 use Rattle.plan.specs.Plan.{Parsed, good, parse, itemsOf}
-use Rattle.plan.specs.Rules.{Bytes}
 use Rattle.plan.specs.Xdl.{bytesOf, xdlBytes}
 use Rattle.plan.specs.Compile.{compileAnswer}
 use Rattle.plan.proofs.Compiling.{accepted, compiles}

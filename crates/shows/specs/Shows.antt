@@ -7,7 +7,7 @@ use mathlib.Core.List.{List}
 use Prim.Native.Nat.{ℕ, _/_, _%_, _≤_, _<_}
 use lib.ListN.{length, take, getD}
 use Rattle.refusal.specs.Sheet.{Told, done, refused}
-use Rattle.vram.specs.Memory.{goodLength, byteAt}
+use Rattle.vram.specs.Memory.{Bytes, goodLength, byteAt}
 use Rattle.vram.specs.Install.{installAnswer, installMemory}
 use Rattle.settings.specs.declared.Settings.{Settings}
 use Rattle.board.specs.Board.{soundBoard, writeBoard}
@@ -16,7 +16,6 @@ use Rattle.frame.specs.Frame.{startAnswer, lineAt}
 use Rattle.frame.specs.declared.Frame.{Frame}
 use Rattle.item.specs.declared.Item.{Item}
 use Rattle.plan.specs.Plan.{good, parse}
-use Rattle.plan.specs.Rules.{Bytes}
 use Rattle.plan.specs.Xdl.{bytesOf}
 use Rattle.plan.specs.Compile.{compileAnswer, compileOutput}
 use Rattle.plan.specs.Meaning.{meaning}
