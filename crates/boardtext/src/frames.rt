@@ -86,18 +86,18 @@ pub fn lines(from: u16, to: u16, s: Settings) {
 // What a frame holds beside its settings.
 pub fn state(f: Frame) {
     pair(b"frame: line ", f.line);
-    pair(b" repeat ", f.repeat as u16);
+    pair(b" repeat ", f.reader.repeat as u16);
     print::text(b" list ");
-    print::address(f.position);
+    print::address(f.reader.position);
     flag(f.on, b" on", b" not on");
-    flag(f.ended, b" ended\n", b"\n");
+    flag(f.reader.ended, b" ended\n", b"\n");
 }
 
 // All that it holds.
 pub fn holds(f: Frame) {
     state(f);
     print::text(b"holds: ");
-    settings(f.settings);
+    settings(f.reader.settings);
 }
 
 // A line that is refused.

@@ -54,11 +54,11 @@ fn same(a: Settings, b: Settings) -> bool {
 }
 
 fn same_frame(a: Frame, b: Frame) -> bool {
-    same(a.settings, b.settings)
-        & (a.position == b.position)
-        & (a.repeat == b.repeat)
+    same(a.reader.settings, b.reader.settings)
+        & (a.reader.position == b.reader.position)
+        & (a.reader.repeat == b.reader.repeat)
         & (a.line == b.line)
-        & (a.ended == b.ended)
+        & (a.reader.ended == b.reader.ended)
         & (a.on == b.on)
 }
 

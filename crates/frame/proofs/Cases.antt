@@ -9,12 +9,14 @@ use lib.ListN.{length}
 use borrow.Author.Tests.{lt-ltb, le-ltb}
 use Rattle.board.specs.Board.{soundBoard}
 use Rattle.board.specs.declared.Board.{Board}
+use Rattle.record.specs.Parts.{withSettings, repeating}
 use Rattle.record.specs.Record.{recordOf}
+use Rattle.record.specs.declared.Reader.{Reader}
 use Rattle.refusal.specs.Sheet.{Told, done, refused, kept}
-use Rattle.settings.specs.Settings.{beginning, advanced, off}
+use Rattle.settings.specs.Settings.{beginning, off}
 use Rattle.settings.specs.declared.Settings.{Settings}
 use Rattle.vram.specs.Memory.{goodLength}
-use Rattle.frame.specs.Frame.{startAnswer, soundFrame, readerOf, withReader, frameAt, fetched, shown, nextFrame, lineAnswer, lineFrame}
+use Rattle.frame.specs.Frame.{startOf, startAnswer, soundFrame, frameAt, fetched, advancedReader, shown, nextFrame, lineAnswer, lineFrame}
 use Rattle.frame.specs.declared.Frame.{Frame}
 
 -- the second and the third of three
@@ -24,22 +26,23 @@ second s t x y z p q = simp (p, q)
 third : {A : Type 0} (s t : Bool) (x y z : A) → s ≡ false → t ≡ false → cond s x (cond t y z) ≡ z
 third s t x y z p q = simp (p, q)
 
-module _ (mem : List ℕ) (f : Frame) where
-  -- what is fetched: a repeat, the end, a record
-  pub fetched-repeat : 0 < f .repeat → fetched mem f ≡ frameAt (f .line) (f .settings) (f .repeat - 1) f
+-- what is fetched: a repeat, the end, a record
+module _ (mem : List ℕ) (r : Reader) where
+  pub fetched-repeat : 0 < r .repeat → fetched mem r ≡ repeating (r .repeat - 1) r
   unfolding fetched
   fetched-repeat h = simp (lt-ltb _ _ h)
 
-  pub fetched-end : f .repeat ≤ 0 → f .ended ≡ true → fetched mem f ≡ frameAt (f .line) (off (f .settings)) (f .repeat) f
+  pub fetched-end : r .repeat ≤ 0 → r .ended ≡ true → fetched mem r ≡ withSettings (off (r .settings)) r
   unfolding fetched
-  fetched-end h e = second _ (f .ended) _ _ _ (le-ltb 0 (f .repeat) h) e
+  fetched-end h e = second _ (r .ended) _ _ _ (le-ltb 0 (r .repeat) h) e
 
-  pub fetched-record : f .repeat ≤ 0 → f .ended ≡ false → fetched mem f ≡ withReader (recordOf mem (readerOf f)) f
+  pub fetched-record : r .repeat ≤ 0 → r .ended ≡ false → fetched mem r ≡ recordOf mem r
   unfolding fetched
-  fetched-record h e = third _ (f .ended) _ _ _ (le-ltb 0 (f .repeat) h) e
+  fetched-record h e = third _ (r .ended) _ _ _ (le-ltb 0 (r .repeat) h) e
 
+module _ (mem : List ℕ) (f : Frame) where
   -- a frame that is switched on, and one that is not
-  pub shown-on : f .on ≡ true → shown mem f ≡ fetched mem f .settings
+  pub shown-on : f .on ≡ true → shown mem f ≡ fetched mem (f .reader) .settings
   unfolding shown
   shown-on e = simp e
 
@@ -47,11 +50,11 @@ module _ (mem : List ℕ) (f : Frame) where
   unfolding shown
   shown-off e = simp e
 
-  pub next-on : f .on ≡ true → nextFrame mem f ≡ frameAt (f .line + 1) (advanced (fetched mem f .settings)) (fetched mem f .repeat) (fetched mem f)
+  pub next-on : f .on ≡ true → nextFrame mem f ≡ frameAt (f .line + 1) (advancedReader (fetched mem (f .reader))) f
   unfolding nextFrame
   next-on e = simp e
 
-  pub next-off : f .on ≡ false → nextFrame mem f ≡ frameAt (f .line + 1) (f .settings) (f .repeat) f
+  pub next-off : f .on ≡ false → nextFrame mem f ≡ frameAt (f .line + 1) (f .reader) f
   unfolding nextFrame
   next-off e = simp e
 
@@ -70,11 +73,18 @@ module _ (mem : List ℕ) (f : Frame) where
     pub line-given : f .line < 240 → (lineAnswer f mem ≡ done (shown mem f)) × (lineFrame f mem ≡ nextFrame mem f)
     line-given h = (simp (g, s, lt-ltb _ _ h), simp (g, s, lt-ltb _ _ h))
 
-    pub line-on : f .line < 240 → f .on ≡ true → (x y : Frame) → x ≡ fetched mem f → y ≡ frameAt (f .line + 1) (advanced (x .settings)) (x .repeat) x → (done (x .settings) ≡ lineAnswer f mem) × (y ≡ lineFrame f mem)
+    pub line-on :
+        f .line < 240 → f .on ≡ true → (x y : Reader) → x ≡ fetched mem (f .reader) → y ≡ advancedReader x
+        → (done (x .settings) ≡ lineAnswer f mem) × (frameAt (f .line + 1) y f ≡ lineFrame f mem)
     line-on h e x y p q =
-        (ap (λ (z : Frame). done (z .settings)) p ∙ sym (line-given h .0 ∙ ap done (shown-on e)), q ∙ ap (λ (z : Frame). frameAt (f .line + 1) (advanced (z .settings)) (z .repeat) z) p ∙ sym (line-given h .1 ∙ next-on e))
+        let n = line-given h in (
+          ap (λ (z : Reader). done (z .settings)) p ∙ sym (n .0 ∙ ap done (shown-on e)),
+          ap (λ (z : Reader). frameAt (f .line + 1) z f) (q ∙ ap advancedReader p) ∙ sym (n .1 ∙ next-on e),
+        )
 
-    pub line-off : f .line < 240 → f .on ≡ false → (x : Settings) → x ≡ beginning → (done x ≡ lineAnswer f mem) × (frameAt (f .line + 1) (f .settings) (f .repeat) f ≡ lineFrame f mem)
+    pub line-off :
+        f .line < 240 → f .on ≡ false → (x : Settings) → x ≡ beginning
+        → (done x ≡ lineAnswer f mem) × (frameAt (f .line + 1) (f .reader) f ≡ lineFrame f mem)
     line-off h e x p = (ap done p ∙ sym (line-given h .0 ∙ ap done (shown-off e)), sym (line-given h .1 ∙ next-off e))
 
 -- Frame start.
@@ -82,7 +92,8 @@ pub start-state : (b : Board) → soundBoard b ≡ false → refused 15 0 ≡ st
 unfolding startAnswer
 start-state b s = simp s
 
-pub start-given : (b : Board) (s : Settings) → soundBoard b ≡ true → s ≡ beginning
-    → done (record { settings = s; position = b .ports .xdladr; repeat = 0; line = 0; ended = false; on = eqb (b .ports .video % 2) 1 }) ≡ startAnswer b
+pub start-given :
+    (b : Board) (s : Settings) → soundBoard b ≡ true → s ≡ beginning
+    → done (record { reader = withSettings s (startOf (b .ports .xdladr) 0 .reader); line = 0; on = eqb (b .ports .video % 2) 1 }) ≡ startAnswer b
 unfolding startAnswer
 start-given b s e f = simp (e, f, div-one)

@@ -4,10 +4,9 @@ use mathlib.Core.Bool.{true}
 use mathlib.Core.List.{List}
 use Prim.Native.Nat.{ℕ, zero, suc, _+_, _<_}
 use native.Mathlib.Omega.{arith}
-use lib.ListN.{length, getD}
-use Rattle.laws.proofs.Choice.{by-cond}
+use lib.ListN.{length}
 use Rattle.refusal.specs.Sheet.{done}
-use Rattle.vram.specs.Memory.{goodLength}
+use Rattle.vram.specs.Memory.{Bytes, goodLength}
 use Rattle.frame.specs.Frame.{soundFrame, shown, nextFrame, linesOn, lineAt}
 use Rattle.frame.proofs.Cases.{line-given}
 use Rattle.frame.proofs.Sound.{sound-next}
@@ -16,7 +15,7 @@ use Rattle.frame.specs.declared.Frame.{Frame}
 -- a line that is given counts itself
 pub next-line-is : (mem : List ℕ) (f : Frame) → nextFrame mem f .line ≡ f .line + 1
 unfolding nextFrame
-next-line-is mem f = by-cond (λ (g : Frame). g .line ≡ f .line + 1) (f .on) _ _ (λ e. refl) (λ e. refl)
+next-line-is mem f = refl
 
 module _ (mem : List ℕ) (g : goodLength (length mem) ≡ true) where
   -- the first line, and those after it
@@ -34,7 +33,7 @@ module _ (mem : List ℕ) (g : goodLength (length mem) ≡ true) where
     lines-more k = ap (λ (x : Frame). linesOn mem x k) (line-given mem f g s h .1)
 
   -- none of the 240 lines is refused
-  pub line-told : (bytes : (i : ℕ) → getD mem i 0 < 256) (k : ℕ) (f : Frame) → soundFrame f ≡ true → f .line + k < 240 → lineAt mem f k ≡ done (shown mem (linesOn mem f k))
+  pub line-told : Bytes mem → (k : ℕ) (f : Frame) → soundFrame f ≡ true → f .line + k < 240 → lineAt mem f k ≡ done (shown mem (linesOn mem f k))
   unfolding linesOn
   line-told bytes zero f s h = line-first f s (omega arith)
   line-told bytes (suc k) f s h =

@@ -1,10 +1,7 @@
 -- Each contract of this crate's public calls admits one outcome only. Assumes nothing.
 use mathlib.Core.Path.{_≡_, sym, ap, ap₂, _∙_}
-use Prim.Native.Nat.{ℕ}
-use native.Mathlib.Omega.{arith}
 use Rattle.laws.proofs.Once.{OneAnswer}
-use Rattle.refusal.proofs.Sheet.{number-one}
-use Rattle.refusal.specs.Sheet.{numberOf, Told, done, refused}
+use Rattle.refusal.proofs.Sheet.{number-one, done-refused, refused-done}
 use Rattle.frame.specs.Frame.{startTold, lineTold}
 use Rattle.frame.specs.declared.Frame.{Frame}
 use Rattle.frame.specs.declared.FrameStart.{FrameStart}
@@ -20,8 +17,8 @@ use Rattle.frame.proofs.Frame.next_line.Reads as next-line
 -- what is told means one report
 line-one : (x y : LineReport) → lineTold x ≡ lineTold y → x ≡ y
 line-one (Line s) (Line t) e = cc
-line-one (Line s) (Refused w) e = absurd (let z : _≡_ {A = ℕ} 0 1 = cc in omega arith)
-line-one (Refused v) (Line t) e = absurd (let z : _≡_ {A = ℕ} 0 1 = cc in omega arith)
+line-one (Line s) (Refused w) e = done-refused e
+line-one (Refused v) (Line t) e = refused-done e
 line-one (Refused v) (Refused w) e = ap Refused (number-one v w (cc))
 
 both-one : (x y : NextLine) → x .frame ≡ y .frame → x .report ≡ y .report → x ≡ y
@@ -35,8 +32,8 @@ next-line-once κs a x y s t p q = both-one x y (p .1 ∙ sym (q .1)) (line-one 
 
 start-one : (x y : FrameStart) → startTold x ≡ startTold y → x ≡ y
 start-one (Started f) (Started g) e = cc
-start-one (Started f) (Unstarted w) e = absurd (let z : _≡_ {A = ℕ} 0 1 = cc in omega arith)
-start-one (Unstarted v) (Started g) e = absurd (let z : _≡_ {A = ℕ} 0 1 = cc in omega arith)
+start-one (Started f) (Unstarted w) e = done-refused e
+start-one (Unstarted v) (Started g) e = refused-done e
 start-one (Unstarted v) (Unstarted w) e = ap Unstarted (number-one v w (cc))
 
 start-once : OneAnswer 0 start-kinds.ps start-kinds.r start.Post

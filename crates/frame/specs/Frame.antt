@@ -7,6 +7,7 @@ use lib.ListN.{length}
 use Rattle.laws.specs.Bit.{bit}
 use Rattle.board.specs.Board.{soundBoard}
 use Rattle.board.specs.declared.Board.{Board}
+use Rattle.record.specs.Parts.{withSettings, repeating}
 use Rattle.record.specs.Record.{recordOf}
 use Rattle.record.specs.declared.Reader.{Reader}
 use Rattle.refusal.specs.Sheet.{numberOf, Told, done, refused, unless, kept}
@@ -22,7 +23,11 @@ use Rattle.frame.specs.declared.LineReport.the-variants.{Line, Refused}
 -- "it takes XDL_ADR as the list position and bit 0 of VIDEO_CONTROL, with line and repeat 0 and the list not ended"
 abbrev pub startOf : ℕ → ℕ → Frame
 startOf address control =
-    record { settings = beginning; position = address; repeat = 0; line = 0; ended = false; on = bit control 0 }
+    record {
+      reader = record { settings = beginning; position = address; repeat = 0; ended = false };
+      line = 0;
+      on = bit control 0;
+    }
 
 -- the paper's number for each case of a frame start
 abbrev pub startTold : FrameStart → Told Frame
@@ -35,46 +40,31 @@ startAnswer b = unless (soundBoard b) 15 (done (startOf (b .ports .xdladr) (b .p
 
 -- "line at most 240, repeat at most 255", which every byte is; the list position has 19 bits
 abbrev pub soundFrame : Frame → Bool
-soundFrame f = soundSettings (f .settings) && ltb (f .position) 524288 && leb (f .line) 240
-
--- what a record changes, out of a frame and back into it
-abbrev pub readerOf : Frame → Reader
-readerOf f = record { settings = f .settings; position = f .position; repeat = f .repeat; ended = f .ended }
-
-abbrev pub withReader : Reader → Frame → Frame
-withReader r f =
-    record {
-      settings = r .settings;
-      position = r .position;
-      repeat = r .repeat;
-      line = f .line;
-      ended = r .ended;
-      on = f .on;
-    }
-
--- the same frame at another line, with other settings and repeat
-abbrev pub frameAt : ℕ → Settings → ℕ → Frame → Frame
-frameAt line s repeat f =
-    record { settings = s; position = f .position; repeat = repeat; line = line; ended = f .ended; on = f .on }
+soundFrame f = soundSettings (f .reader .settings) && ltb (f .reader .position) 524288 && leb (f .line) 240
 
 -- "if repeat is above 0, lower it; else, if the list has not ended, read one record"; "When END's record and its repeats are displayed, overlay and map are off"
-unfoldable pub fetched : List ℕ → Frame → Frame
-fetched mem f =
-    cond (ltb 0 (f .repeat))
-    (frameAt (f .line) (f .settings) (f .repeat - 1) f)
-    (cond (f .ended)
-    (frameAt (f .line) (off (f .settings)) (f .repeat) f)
-    (withReader (recordOf mem (readerOf f)) f))
+unfoldable pub fetched : List ℕ → Reader → Reader
+fetched mem r =
+    cond (ltb 0 (r .repeat))
+    (repeating (r .repeat - 1) r)
+    (cond (r .ended) (withSettings (off (r .settings)) r) (recordOf mem r))
 
 -- "Not switched on: every line has these", the settings that a frame begins with; else "Report the settings"
 unfoldable pub shown : List ℕ → Frame → Settings
-shown mem f = cond (f .on) (fetched mem f .settings) beginning
+shown mem f = cond (f .on) (fetched mem (f .reader) .settings) beginning
 
--- "then advance", to the next line; a frame that is not switched on only counts the line
+-- "then advance"
+abbrev pub advancedReader : Reader → Reader
+advancedReader r = withSettings (advanced (r .settings)) r
+
+-- the same frame at another line, with another reader
+abbrev pub frameAt : ℕ → Reader → Frame → Frame
+frameAt line r f = record { reader = r; line = line; on = f .on }
+
+-- to the next line; a frame that is not switched on only counts the line
 unfoldable pub nextFrame : List ℕ → Frame → Frame
 nextFrame mem f =
-    let g = fetched mem f in
-    cond (f .on) (frameAt (f .line + 1) (advanced (g .settings)) (g .repeat) g) (frameAt (f .line + 1) (f .settings) (f .repeat) f)
+    frameAt (f .line + 1) (cond (f .on) (advancedReader (fetched mem (f .reader))) (f .reader)) f
 
 -- the paper's number for each case
 abbrev pub lineTold : LineReport → Told Settings

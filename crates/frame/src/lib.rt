@@ -1,19 +1,14 @@
 ghost use mathlib.Core.Path.{_≡_};
-ghost use Prim.Native.Nat.{_+_};
 ghost use Rattle.frame.specs.Frame.{
   soundFrame,
-  readerOf,
-  withReader,
-  frameAt,
   fetched,
+  advancedReader,
   lineTold,
   lineAnswer,
   lineFrame,
   startTold,
   startAnswer,
 };
-ghost use Rattle.record.specs.Record.{recordOf};
-ghost use Rattle.settings.specs.Settings.{advanced};
 use board::Board;
 use record::Reader;
 use refusal::Refusal;
@@ -21,14 +16,11 @@ use settings::Settings;
 use vram::Vram;
 use vram::good_length;
 
-// A frame: the settings of its line, where the list is read on, how many lines more have these settings,
-// how many lines were given, whether the list has ended, and whether the display list is switched on.
+// A frame: the reader of its display list, with the settings of the line; how many lines were given; whether
+// the display list is switched on.
 pub struct Frame {
-    pub settings: Settings,
-    pub position: u32,
-    pub repeat: u8,
+    pub reader: Reader,
     pub line: u16,
-    pub ended: bool,
     pub on: bool,
 }
 
@@ -50,6 +42,31 @@ pub enum FrameStart {
     Refused(Refusal),
 }
 
+// The reader as its next line is shown.
+fn fetch(mut reader: Reader, mem: &[u8]) -> Reader
+    ensures { λ r. ⌜ r ≡ fetched (now (mem .entry)) reader ⌝ }
+{
+    if 0 < reader.repeat {
+        reader.repeat -= 1;
+        return reader;
+    }
+    if reader.ended {
+        let settings = reader.settings;
+        reader.settings = settings.dark();
+        return reader;
+    }
+    reader.read(mem)
+}
+
+// After a line was shown.
+fn advance(mut reader: Reader) -> Reader
+    ensures { λ r. ⌜ r ≡ advancedReader reader ⌝ }
+{
+    let settings = reader.settings;
+    reader.settings = settings.advance();
+    reader
+}
+
 impl Frame {
     // The lines of a frame.
     pub const LINES: u16 = 240;
@@ -63,12 +80,15 @@ impl Frame {
         }
         let ports = board.ports;
         let settings = Settings::new();
-        FrameStart::Started(Frame {
+        let reader = Reader {
             settings,
             position: ports.xdladr,
             repeat: 0,
-            line: 0,
             ended: false,
+        };
+        FrameStart::Started(Frame {
+            reader,
+            line: 0,
             on: ports.video % 2 == 1,
         })
     }
@@ -76,57 +96,9 @@ impl Frame {
     fn sound(self) -> bool
         ensures { λ r. ⌜ r ≡ soundFrame self ⌝ }
     {
-        let settings = self.settings;
-        settings.sound() & (self.position < Vram::ADDRESSES) & (self.line <= Frame::LINES)
-    }
-
-    // One record of the list.
-    fn read(self, mem: &[u8]) -> Self
-        ensures { λ r. ⌜ r ≡ withReader (recordOf (now (mem .entry)) (readerOf self)) self ⌝ }
-    {
-        let settings = self.settings;
-        let reader = Reader {
-            settings,
-            position: self.position,
-            repeat: self.repeat,
-            ended: self.ended,
-        };
-        let next = reader.read(mem);
-        let settings = next.settings;
-        Self {
-            settings,
-            position: next.position,
-            repeat: next.repeat,
-            line: self.line,
-            ended: next.ended,
-            on: self.on,
-        }
-    }
-
-    // The frame as its next line is shown.
-    fn fetch(mut self, mem: &[u8]) -> Self
-        ensures { λ r. ⌜ r ≡ fetched (now (mem .entry)) self ⌝ }
-    {
-        if 0 < self.repeat {
-            self.repeat -= 1;
-            return self;
-        }
-        if self.ended {
-            let settings = self.settings;
-            self.settings = settings.dark();
-            return self;
-        }
-        self.read(mem)
-    }
-
-    // After a line was shown.
-    fn advance(mut self, line: u16) -> Self
-        ensures { λ r. ⌜ r ≡ frameAt line (advanced (self .settings)) (self .repeat) self ⌝ }
-    {
-        let settings = self.settings;
-        self.settings = settings.advance();
-        self.line = line;
-        self
+        let reader = self.reader;
+        let settings = reader.settings;
+        settings.sound() & (reader.position < Vram::ADDRESSES) & (self.line <= Frame::LINES)
     }
 
     // The next line of the frame: its settings, or a refusal with the frame as it was handed in.
@@ -154,9 +126,10 @@ impl Frame {
         }
         let line = self.line + 1;
         if self.on {
-            self = self.fetch(mem);
-            let settings = self.settings;
-            self = self.advance(line);
+            let reader = fetch(self.reader, mem);
+            let settings = reader.settings;
+            self.reader = advance(reader);
+            self.line = line;
             return NextLine {
                 frame: self,
                 report: LineReport::Line(settings),

@@ -6,16 +6,20 @@ use board::Board;
 use boardtext::lines;
 use frame::Frame;
 use frame::FrameStart;
+use record::Reader;
 use settings::Settings;
 
 // A frame that is on, as it begins.
 fn begun() -> Frame {
-    Frame {
+    let reader = Reader {
         settings: Settings::new(),
         position: 0,
         repeat: 0,
-        line: 0,
         ended: false,
+    };
+    Frame {
+        reader,
+        line: 0,
         on: true,
     }
 }
@@ -23,9 +27,9 @@ fn begun() -> Frame {
 // SR at 5, 7 bytes a line.
 fn picture() -> Frame {
     let mut f = begun();
-    f.settings.overlay.mode = 2;
-    f.settings.overlay.address = 5;
-    f.settings.overlay.step = 7;
+    f.reader.settings.overlay.mode = 2;
+    f.reader.settings.overlay.address = 5;
+    f.reader.settings.overlay.step = 7;
     f
 }
 
@@ -40,22 +44,22 @@ fn ask(title: &[u8], frame: Frame) {
 fn states() {
     let mut f = picture();
     f.on = false;
-    f.repeat = 9;
+    f.reader.repeat = 9;
     ask(b"Not on, whatever is held:\n", f);
-    f.ended = true;
-    f.settings.map.on = true;
+    f.reader.ended = true;
+    f.reader.settings.map.on = true;
     ask(b"Not on, ended, the map on:\n", f);
     f = picture();
-    f.ended = true;
+    f.reader.ended = true;
     ask(b"Ended and SR:\n", f);
     f = picture();
-    f.repeat = 1;
+    f.reader.repeat = 1;
     ask(b"With a repeat the list is not read:\n", f);
-    f.position = 524287;
+    f.reader.position = 524287;
     ask(b"The same wherever it is:\n", f);
     f = picture();
-    f.ended = true;
-    f.repeat = 2;
+    f.reader.ended = true;
+    f.reader.repeat = 2;
     print::text(b"Ended, with two lines more:\n");
     let mem = [0u8; 16384];
     lines::runs(f, &mem, 4);
@@ -65,15 +69,15 @@ fn states() {
 fn last_line() {
     let mut f = begun();
     f.line = 239;
-    f.repeat = 5;
-    f.settings.overlay.mode = 2;
-    f.settings.overlay.address = 7;
-    f.settings.overlay.step = 3;
+    f.reader.repeat = 5;
+    f.reader.settings.overlay.mode = 2;
+    f.reader.settings.overlay.address = 7;
+    f.reader.settings.overlay.step = 3;
     ask(b"The last line advances too:\n", f);
     f = begun();
     f.line = 240;
     ask(b"Line 240: ", f);
-    f.ended = true;
+    f.reader.ended = true;
     ask(b"Line 240, ended: ", f);
     f.on = false;
     ask(b"Line 240, not on: ", f);
@@ -84,26 +88,26 @@ fn last_line() {
 // Each field at its highest.
 fn highest() -> Frame {
     let mut f = begun();
-    f.settings.overlay.mode = 4;
-    f.settings.overlay.address = 524287;
-    f.settings.overlay.step = 4095;
-    f.settings.overlay.hscroll = 7;
-    f.settings.overlay.vscroll = 7;
-    f.settings.overlay.font = 255;
-    f.settings.overlay.counter = 7;
-    f.settings.map.on = true;
-    f.settings.map.address = 524287;
-    f.settings.map.step = 4095;
-    f.settings.map.hscroll = 31;
-    f.settings.map.vscroll = 31;
-    f.settings.map.width = 32;
-    f.settings.map.height = 32;
-    f.settings.map.counter = 31;
-    f.settings.look.width = 2;
-    f.settings.look.palette = 3;
-    f.settings.look.playfield = 3;
-    f.position = 524287;
-    f.repeat = 255;
+    f.reader.settings.overlay.mode = 4;
+    f.reader.settings.overlay.address = 524287;
+    f.reader.settings.overlay.step = 4095;
+    f.reader.settings.overlay.hscroll = 7;
+    f.reader.settings.overlay.vscroll = 7;
+    f.reader.settings.overlay.font = 255;
+    f.reader.settings.overlay.counter = 7;
+    f.reader.settings.map.on = true;
+    f.reader.settings.map.address = 524287;
+    f.reader.settings.map.step = 4095;
+    f.reader.settings.map.hscroll = 31;
+    f.reader.settings.map.vscroll = 31;
+    f.reader.settings.map.width = 32;
+    f.reader.settings.map.height = 32;
+    f.reader.settings.map.counter = 31;
+    f.reader.settings.look.width = 2;
+    f.reader.settings.look.palette = 3;
+    f.reader.settings.look.playfield = 3;
+    f.reader.position = 524287;
+    f.reader.repeat = 255;
     f.line = 239;
     f
 }
@@ -111,76 +115,76 @@ fn highest() -> Frame {
 // One more than the highest.
 fn unsound_overlay() {
     let mut f = highest();
-    f.settings.overlay.mode = 5;
+    f.reader.settings.overlay.mode = 5;
     ask(b"Mode 5: ", f);
     f = highest();
-    f.settings.overlay.address = 524288;
+    f.reader.settings.overlay.address = 524288;
     ask(b"Overlay address 524,288: ", f);
     f = highest();
-    f.settings.overlay.step = 4096;
+    f.reader.settings.overlay.step = 4096;
     ask(b"Overlay step 4,096: ", f);
     f = highest();
-    f.settings.overlay.hscroll = 8;
+    f.reader.settings.overlay.hscroll = 8;
     ask(b"hscroll 8: ", f);
     f = highest();
-    f.settings.overlay.vscroll = 8;
+    f.reader.settings.overlay.vscroll = 8;
     ask(b"vscroll 8: ", f);
     f = highest();
-    f.settings.overlay.counter = 8;
+    f.reader.settings.overlay.counter = 8;
     ask(b"Text counter 8: ", f);
 }
 
 fn unsound_map() {
     let mut f = highest();
-    f.settings.map.address = 524288;
+    f.reader.settings.map.address = 524288;
     ask(b"Map address 524,288: ", f);
     f = highest();
-    f.settings.map.step = 4096;
+    f.reader.settings.map.step = 4096;
     ask(b"Map step 4,096: ", f);
     f = highest();
-    f.settings.map.hscroll = 32;
+    f.reader.settings.map.hscroll = 32;
     ask(b"Map hscroll 32: ", f);
     f = highest();
-    f.settings.map.vscroll = 32;
+    f.reader.settings.map.vscroll = 32;
     ask(b"Map vscroll 32: ", f);
     f = highest();
-    f.settings.map.width = 33;
+    f.reader.settings.map.width = 33;
     ask(b"Field width 33: ", f);
     f = highest();
-    f.settings.map.width = 7;
+    f.reader.settings.map.width = 7;
     ask(b"Field width 7: ", f);
     f = highest();
-    f.settings.map.height = 33;
+    f.reader.settings.map.height = 33;
     ask(b"Field height 33: ", f);
     f = highest();
-    f.settings.map.height = 31;
+    f.reader.settings.map.height = 31;
     ask(b"Field counter 31 of 31: ", f);
 }
 
 fn unsound_counter() {
     let mut f = begun();
-    f.settings.map.height = 0;
+    f.reader.settings.map.height = 0;
     ask(b"Field height 0: ", f);
     f = begun();
-    f.settings.map.height = 4;
-    f.settings.map.counter = 4;
+    f.reader.settings.map.height = 4;
+    f.reader.settings.map.counter = 4;
     ask(b"Field counter 4 of 4: ", f);
-    f.settings.map.counter = 3;
+    f.reader.settings.map.counter = 3;
     ask(b"Field counter 3 of 4, the map off:\n", f);
 }
 
 fn unsound_look() {
     let mut f = highest();
-    f.settings.look.width = 3;
+    f.reader.settings.look.width = 3;
     ask(b"Width 3: ", f);
     f = highest();
-    f.settings.look.palette = 4;
+    f.reader.settings.look.palette = 4;
     ask(b"Overlay palette 4: ", f);
     f = highest();
-    f.settings.look.playfield = 4;
+    f.reader.settings.look.playfield = 4;
     ask(b"Playfield palette 4: ", f);
     f = highest();
-    f.position = 524288;
+    f.reader.position = 524288;
     ask(b"List position 524,288: ", f);
 }
 

@@ -66,7 +66,7 @@ module _ (f : Frame) (rest : List ℕ) (fits : frameFits (frameWords f ++ rest) 
   behind : List ℕ
   behind = placeWords f ++ rest
 
-  front-fits : settingsFits (settingsWords (f .settings) ++ behind) ≡ true
+  front-fits : settingsFits (settingsWords (f .reader .settings) ++ behind) ≡ true
   unfolding behind frameWords settingsWords frameMost
   front-fits = within-front settingsMost _ (frameWords f ++ rest) 0 fits
 
@@ -76,11 +76,13 @@ module _ (f : Frame) (rest : List ℕ) (fits : frameFits (frameWords f ++ rest) 
       let words : List ℕ = frameWords f ++ rest in
       λ i.
       record {
-        settings = settings-back (f .settings) behind front-fits i;
-        position = f .position;
-        repeat = byte-kept frameMost words fits 20 (lit< tt) refl i;
+        reader = record {
+          settings = settings-back (f .reader .settings) behind front-fits i;
+          position = f .reader .position;
+          repeat = byte-kept frameMost words fits 20 (lit< tt) refl i;
+          ended = switch-kept (f .reader .ended) i;
+        };
         line = half-kept frameMost words fits 21 (lit< tt) refl i;
-        ended = switch-kept (f .ended) i;
         on = switch-kept (f .on) i;
       }
 

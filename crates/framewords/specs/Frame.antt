@@ -51,15 +51,17 @@ lookOf words =
 unfoldable pub settingsOf : List ℕ → Settings
 settingsOf words = record { overlay = overlayOf words; map = mapOf words; look = lookOf words }
 
--- words 0 to 18: its settings; 19 to 23: list position, repeat, line, ended, on
+-- words 0 to 18: its settings; 19 to 23: list position, repeat, line, ended, on. All but line and on are the reader's
 unfoldable pub frameOf : List ℕ → Frame
 frameOf words =
     record {
-      settings = settingsOf words;
-      position = wordAt words 19;
-      repeat = byteIn words 20;
+      reader = record {
+        settings = settingsOf words;
+        position = wordAt words 19;
+        repeat = byteIn words 20;
+        ended = switchIn words 22;
+      };
       line = halfIn words 21;
-      ended = switchIn words 22;
       on = switchIn words 23;
     }
 
@@ -78,10 +80,12 @@ unfoldable pub settingsWords : Settings → List ℕ
 settingsWords s = overlayWords (s .overlay) ++ mapWords (s .map) ++ lookWords (s .look)
 
 abbrev pub placeWords : Frame → List ℕ
-placeWords f = f .position ∷ f .repeat ∷ f .line ∷ switchWord (f .ended) ∷ switchWord (f .on) ∷ []
+placeWords f =
+    let r = f .reader in
+    r .position ∷ r .repeat ∷ f .line ∷ switchWord (r .ended) ∷ switchWord (f .on) ∷ []
 
 unfoldable pub frameWords : Frame → List ℕ
-frameWords f = settingsWords (f .settings) ++ placeWords f
+frameWords f = settingsWords (f .reader .settings) ++ placeWords f
 
 -- the largest word of each field
 unfoldable pub settingsMost : List ℕ

@@ -3,6 +3,7 @@ ghost use mathlib.Core.Path.{_≡_};
 ghost use Rattle.words.specs.Words.{laid};
 ghost use Rattle.framewords.specs.Frame.{overlayOf, mapOf, lookOf, settingsOf, settingsWords, frameOf, frameWords, frameFits};
 use frame::Frame;
+use record::Reader;
 use settings::Look;
 use settings::Map;
 use settings::Overlay;
@@ -104,12 +105,15 @@ pub fn frame_of(words: &[u32]) -> Frame
     ensures { λ r. ⌜ r ≡ frameOf (now (words .entry)) ⌝ }
 {
     let settings = settings_of(words);
-    Frame {
+    let reader = Reader {
         settings,
         position: word(words, 19),
         repeat: byte(words, 20),
-        line: half(words, 21),
         ended: switch(words, 22),
+    };
+    Frame {
+        reader,
+        line: half(words, 21),
         on: switch(words, 23),
     }
 }
@@ -151,16 +155,17 @@ pub fn frame_fits(words: &[u32]) -> bool
 pub fn put_frame(words: &mut [u32], frame: Frame)
     ensures { λ _. ⌜ now (words .exit) ≡ laid (frameWords frame) (now (words .entry)) ⌝ }
 {
+    let reader = frame.reader;
     let five = [
-        frame.position,
-        frame.repeat as u32,
+        reader.position,
+        reader.repeat as u32,
         frame.line as u32,
-        frame.ended as u32,
+        reader.ended as u32,
         frame.on as u32,
     ];
     if words.len() < FRAME_WORDS {
         return;
     }
-    put_settings(words, frame.settings);
+    put_settings(words, reader.settings);
     lay(&mut words[SETTINGS_WORDS..], &five);
 }

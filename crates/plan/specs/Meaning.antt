@@ -3,6 +3,7 @@ use mathlib.Core.Bool.{cond}
 use mathlib.Core.List.{List, [], _∷_}
 use Prim.Native.Nat.{ℕ, _+_, _-_, _/_, _%_}
 use lib.Dec.{eqb, ltb}
+use Rattle.settings.specs.Parts.{scrolled, inFont, withOverlay, withLook}
 use Rattle.settings.specs.Settings.{beginning, off}
 use Rattle.settings.specs.Below.{settingsBelow}
 use Rattle.settings.specs.declared.Settings.{Settings}
@@ -18,7 +19,7 @@ use Rattle.plan.specs.Plan.{parse, itemsOf}
 abbrev pub itemLook : ℕ → ℕ → ℕ → Look
 itemLook width palettes priority = record { width = width; palette = palettes % 4; playfield = palettes / 4; priority = priority }
 
--- the first line of a full band
+-- the first line of a full band: both counters start at 0
 unfoldable pub fullSettings : Full → Settings
 fullSettings b =
     record {
@@ -47,19 +48,8 @@ fullSettings b =
 -- a running-on item changes "hscroll, vscroll, font, width, palettes, priority. All else runs on from above."
 unfoldable pub runningSettings : Running → Settings → Settings
 runningSettings b s =
-    record {
-      overlay = record {
-        mode = s .overlay .mode;
-        address = s .overlay .address;
-        step = s .overlay .step;
-        hscroll = b .hscroll;
-        vscroll = b .vscroll;
-        font = b .font;
-        counter = s .overlay .counter;
-      };
-      map = s .map;
-      look = itemLook (b .width) (b .palettes) (b .priority);
-    }
+    withLook (itemLook (b .width) (b .palettes) (b .priority))
+    (withOverlay (inFont (b .font) (scrolled (b .hscroll) (b .vscroll) (s .overlay))) s)
 
 -- the latest full band, with what ran on since: its settings as of its first line, and how many lines below that line we are
 pub record Latest : Type 0 where

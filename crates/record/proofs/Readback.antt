@@ -5,58 +5,61 @@ use mathlib.Core.List.{List}
 use Prim.Native.Nat.{ℕ, _+_, _/_, _%_}
 use native.Mathlib.Nat.{mod-add-mod, mod-mod, add-assoc, add-zero}
 use Rattle.laws.specs.Bit.{bit}
+use Rattle.settings.specs.Parts.{overlayAt, inMode, stepping, scrolled, inFont, mapAt, switched, mapStepping, fielded, withOverlay, withMap, withLook}
+use Rattle.settings.specs.declared.Settings.{Settings}
 use Rattle.settings.specs.declared.Overlay.{Overlay}
 use Rattle.settings.specs.declared.Map.{Map}
-use Rattle.settings.specs.declared.Look.{Look}
 use Rattle.vram.specs.Memory.{byteAt}
-use Rattle.record.specs.Parts.{inMode, stepping, scrolled, inFont, switched, mapStepping, fielded}
 use Rattle.record.specs.Record.{overlayMode, mapSwitch, addressAt, stepAt, fieldWidth, lookAt, controlled, repeatGroup, addressGroup, scrollGroup, fontGroup, mapGroup, fieldGroup, lookGroup, restarted, recordBy, recordOf}
 use Rattle.record.specs.declared.Reader.{Reader}
 
--- a record that begins at p, while it is read: its parts, and how many of its bytes are read
+-- a record that begins at p, while it is read: its settings, its repeat, and how many of its bytes are read
 module _ (mem : List ℕ) (p : ℕ) (ended : Bool) where
-  abbrev put : ℕ → ℕ → Overlay → Map → Look → Reader
-  put n t o q l = record { settings = record { overlay = o; map = q; look = l }; position = (p + n) % 524288; repeat = t; ended = ended }
+  abbrev put : ℕ → ℕ → Settings → Reader
+  put n t s = record { settings = s; position = (p + n) % 524288; repeat = t; ended = ended }
 
   -- a group that is announced, n bytes behind the record's begin; and one that is not
-  module _ (v n t : ℕ) (o : Overlay) (q : Map) (l : Look) where
-    repeat-read : bit v 5 ≡ true → repeatGroup mem v (put n t o q l) ≡ put (n + 1) (byteAt mem p n) o q l
+  module _ (v n t : ℕ) (s : Settings) where
+    repeat-read : bit v 5 ≡ true → repeatGroup mem v (put n t s) ≡ put (n + 1) (byteAt mem p n) s
     unfolding repeatGroup
     repeat-read h = simp (h, mod-add-mod, mod-mod, add-assoc, add-zero)
 
-    address-read : bit v 6 ≡ true → addressGroup mem v (put n t o q l) ≡ put (n + 5) t (stepping (addressAt mem p n) (stepAt mem p (n + 3)) o) q l
+    address-read : bit v 6 ≡ true → addressGroup mem v (put n t s) ≡ put (n + 5) t (withOverlay (stepping (addressAt mem p n) (stepAt mem p (n + 3)) (s .overlay)) s)
     unfolding addressGroup
     address-read h = simp (h, mod-add-mod, mod-mod, add-assoc, add-zero)
 
-    address-none : bit v 6 ≡ false → addressGroup mem v (put n t o q l) ≡ put n t o q l
+    address-none : bit v 6 ≡ false → addressGroup mem v (put n t s) ≡ put n t s
     unfolding addressGroup
     address-none h = simp h
 
-    scroll-read : bit v 7 ≡ true → scrollGroup mem v (put n t o q l) ≡ put (n + 2) t (scrolled (byteAt mem p n % 8) (byteAt mem p (n + 1) % 8) o) q l
+    scroll-read : bit v 7 ≡ true → scrollGroup mem v (put n t s) ≡ put (n + 2) t (withOverlay (scrolled (byteAt mem p n % 8) (byteAt mem p (n + 1) % 8) (s .overlay)) s)
     unfolding scrollGroup
     scroll-read h = simp (h, mod-add-mod, mod-mod, add-assoc, add-zero)
 
-    font-read : bit v 0 ≡ true → fontGroup mem v (put n t o q l) ≡ put (n + 1) t (inFont (byteAt mem p n) o) q l
+    font-read : bit v 0 ≡ true → fontGroup mem v (put n t s) ≡ put (n + 1) t (withOverlay (inFont (byteAt mem p n) (s .overlay)) s)
     unfolding fontGroup
     font-read h = simp (h, mod-add-mod, mod-mod, add-assoc, add-zero)
 
-    map-read : bit v 1 ≡ true → mapGroup mem v (put n t o q l) ≡ put (n + 5) t o (mapStepping (addressAt mem p n) (stepAt mem p (n + 3)) q) l
+    map-read : bit v 1 ≡ true → mapGroup mem v (put n t s) ≡ put (n + 5) t (withMap (mapStepping (addressAt mem p n) (stepAt mem p (n + 3)) (s .map)) s)
     unfolding mapGroup
     map-read h = simp (h, mod-add-mod, mod-mod, add-assoc, add-zero)
 
-    map-none : bit v 1 ≡ false → mapGroup mem v (put n t o q l) ≡ put n t o q l
+    map-none : bit v 1 ≡ false → mapGroup mem v (put n t s) ≡ put n t s
     unfolding mapGroup
     map-none h = simp h
 
-    field-read : bit v 2 ≡ true → fieldGroup mem v (put n t o q l) ≡ put (n + 4) t o (fielded (byteAt mem p n % 32) (byteAt mem p (n + 1) % 32) (fieldWidth (byteAt mem p (n + 2))) (byteAt mem p (n + 3) % 32 + 1) q) l
+    abbrev fields : ℕ → ℕ → ℕ → ℕ → Settings
+    fields a b c d = withMap (fielded (a % 32) (b % 32) (fieldWidth c) (d % 32 + 1) (s .map)) s
+
+    field-read : bit v 2 ≡ true → fieldGroup mem v (put n t s) ≡ put (n + 4) t (fields (byteAt mem p n) (byteAt mem p (n + 1)) (byteAt mem p (n + 2)) (byteAt mem p (n + 3)))
     unfolding fieldGroup
     field-read h = simp (h, mod-add-mod, mod-mod, add-assoc, add-zero)
 
-    field-none : bit v 2 ≡ false → fieldGroup mem v (put n t o q l) ≡ put n t o q l
+    field-none : bit v 2 ≡ false → fieldGroup mem v (put n t s) ≡ put n t s
     unfolding fieldGroup
     field-none h = simp h
 
-    look-read : bit v 3 ≡ true → lookGroup mem v (put n t o q l) ≡ put (n + 2) t o q (lookAt mem p n)
+    look-read : bit v 3 ≡ true → lookGroup mem v (put n t s) ≡ put (n + 2) t (withLook (lookAt mem p n) s)
     unfolding lookGroup
     look-read h = simp (h, mod-add-mod, mod-mod, add-assoc, add-zero)
 
@@ -90,13 +93,15 @@ module _ (mem : List ℕ) (r : Reader) (c d : ℕ) where
   pub by-control : byteAt mem at 0 ≡ c → byteAt mem at 1 ≡ d → recordOf mem r ≡ recordBy mem c d r
   by-control e f = simp (e, f)
 
-  -- the reader behind RPTL
-  abbrev begun : ℕ → Reader
-  begun t = put mem at (bit d 7) 3 t (inMode (overlayMode c d (r .settings .overlay .mode)) (r .settings .overlay)) (switched (mapSwitch c (r .settings .map .on)) (r .settings .map)) (r .settings .look)
+  -- the settings behind the control bytes
+  abbrev switchedBy : Settings
+  switchedBy =
+      let s = r .settings in
+      withMap (switched (mapSwitch c (s .map .on)) (s .map)) (withOverlay (inMode (overlayMode c d (s .overlay .mode)) (s .overlay)) s)
 
-  repeated : bit c 5 ≡ true → repeatGroup mem c (controlled c d r) ≡ begun (byteAt mem at 2)
+  repeated : bit c 5 ≡ true → repeatGroup mem c (controlled c d r) ≡ put mem at (bit d 7) 3 (byteAt mem at 2) switchedBy
   unfolding controlled
-  repeated h = repeat-read mem at (bit d 7) c 2 (r .repeat) _ _ _ h
+  repeated h = repeat-read mem at (bit d 7) c 2 (r .repeat) _ h
 
   -- the groups one after the other, by what each makes of the one before
   in-order :
@@ -106,73 +111,54 @@ module _ (mem : List ℕ) (r : Reader) (c d : ℕ) where
       → recordBy mem c d r ≡ restarted c d r7
   in-order e1 e2 e3 e4 e5 e6 e7 = cc
 
-  -- the 22 bytes of a full record
+  -- the 22 bytes of a full record: every part of overlay, map and look is set
+  abbrev fullOverlay : Overlay → Overlay
+  fullOverlay o =
+      let stepped = stepping (addressAt mem at 3) (stepAt mem at 6) (inMode (overlayMode c d (o .mode)) o) in
+      let moved = scrolled (byteAt mem at 8 % 8) (byteAt mem at 9 % 8) stepped in
+      overlayAt (addressAt mem at 3) 0 (inFont (byteAt mem at 10) moved)
+
+  abbrev fullMap : Map → Map
+  fullMap p =
+      let stepped = mapStepping (addressAt mem at 11) (stepAt mem at 14) (switched (mapSwitch c (p .on)) p) in
+      let width = fieldWidth (byteAt mem at 18) in
+      let height = byteAt mem at 19 % 32 + 1 in
+      mapAt (addressAt mem at 11) 0 (fielded (byteAt mem at 16 % 32) (byteAt mem at 17 % 32) width height stepped)
+
   pub full-record :
       Full c d
       → recordBy mem c d r
-      ≡ record {
-        settings = record {
-          overlay = record {
-            mode = overlayMode c d (r .settings .overlay .mode);
-            address = addressAt mem at 3;
-            step = stepAt mem at 6;
-            hscroll = byteAt mem at 8 % 8;
-            vscroll = byteAt mem at 9 % 8;
-            font = byteAt mem at 10;
-            counter = 0;
-          };
-          map = record {
-            on = mapSwitch c (r .settings .map .on);
-            address = addressAt mem at 11;
-            step = stepAt mem at 14;
-            hscroll = byteAt mem at 16 % 32;
-            vscroll = byteAt mem at 17 % 32;
-            width = fieldWidth (byteAt mem at 18);
-            height = byteAt mem at 19 % 32 + 1;
-            counter = 0;
-          };
-          look = lookAt mem at 20;
-        };
-        position = (at + 22) % 524288;
-        repeat = byteAt mem at 2;
-        ended = bit d 7;
-      }
+      ≡ put mem at (bit d 7) 22 (byteAt mem at 2) (withLook (lookAt mem at 20) (withMap (fullMap (r .settings .map)) (withOverlay (fullOverlay (r .settings .overlay)) (r .settings))))
   unfolding restarted
   full-record f =
       let e = bit d 7 in
       in-order
       (repeated (f .rptl))
-      (address-read mem at e c 3 _ _ _ _ (f .ovadr))
-      (scroll-read mem at e c 8 _ _ _ _ (f .ovscrl))
-      (font-read mem at e d 10 _ _ _ _ (f .chbase))
-      (map-read mem at e d 11 _ _ _ _ (f .mapadr))
-      (field-read mem at e d 16 _ _ _ _ (f .mappar))
-      (look-read mem at e d 20 _ _ _ _ (f .ovatt))
+      (address-read mem at e c 3 _ _ (f .ovadr))
+      (scroll-read mem at e c 8 _ _ (f .ovscrl))
+      (font-read mem at e d 10 _ _ (f .chbase))
+      (map-read mem at e d 11 _ _ (f .mapadr))
+      (field-read mem at e d 16 _ _ (f .mappar))
+      (look-read mem at e d 20 _ _ (f .ovatt))
       ∙ simp (f .ovadr, f .mapadr, or-true)
 
   -- the 8 bytes of one that runs on
+  abbrev runOverlay : Overlay → Overlay
+  runOverlay o = inFont (byteAt mem at 5) (scrolled (byteAt mem at 3 % 8) (byteAt mem at 4 % 8) o)
+
   pub running-record :
       Running c d
       → recordBy mem c d r
-      ≡ record {
-        settings = record {
-          overlay = inFont (byteAt mem at 5) (scrolled (byteAt mem at 3 % 8) (byteAt mem at 4 % 8) (r .settings .overlay));
-          map = r .settings .map;
-          look = lookAt mem at 6;
-        };
-        position = (at + 8) % 524288;
-        repeat = byteAt mem at 2;
-        ended = bit d 7;
-      }
+      ≡ put mem at (bit d 7) 8 (byteAt mem at 2) (withLook (lookAt mem at 6) (withOverlay (runOverlay (r .settings .overlay)) (r .settings)))
   unfolding restarted
   running-record f =
       let e = bit d 7 in
       in-order
       (repeated (f .rptl))
-      (address-none mem at e c 3 _ _ _ _ (f .ovadr))
-      (scroll-read mem at e c 3 _ _ _ _ (f .ovscrl))
-      (font-read mem at e d 5 _ _ _ _ (f .chbase))
-      (map-none mem at e d 6 _ _ _ _ (f .mapadr))
-      (field-none mem at e d 6 _ _ _ _ (f .mappar))
-      (look-read mem at e d 6 _ _ _ _ (f .ovatt))
+      (address-none mem at e c 3 _ _ (f .ovadr))
+      (scroll-read mem at e c 3 _ _ (f .ovscrl))
+      (font-read mem at e d 5 _ _ (f .chbase))
+      (map-none mem at e d 6 _ _ (f .mapadr))
+      (field-none mem at e d 6 _ _ (f .mappar))
+      (look-read mem at e d 6 _ _ (f .ovatt))
       ∙ simp (f .mode, f .map, f .ovadr, f .mapadr, f .mappar)

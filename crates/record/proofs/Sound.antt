@@ -12,8 +12,8 @@ use borrow.Author.Tests.{eqb-false, ltb-false}
 use Rattle.laws.proofs.Choice.{by-cond}
 use Rattle.laws.specs.Bit.{bit}
 use Rattle.settings.proofs.Sound.{OverlayFits, MapFits, LookFits, SettingsFit, overlay-at-fits, map-at-fits}
-use Rattle.settings.specs.Settings.{mapAt}
-use Rattle.vram.specs.Memory.{byteAt, place}
+use Rattle.settings.specs.Parts.{overlayAt, mapAt}
+use Rattle.vram.specs.Memory.{Bytes, byteAt, place}
 use Rattle.record.specs.Record.{pixelMode, overlayMode, addressAt, stepAt, fieldWidth, displayWidth, fieldRestarts, textRestarts, controlled, repeatGroup, addressGroup, scrollGroup, fontGroup, mapGroup, fieldGroup, lookGroup, restarted, fetchedBy, recordOf}
 use Rattle.record.specs.declared.Reader.{Reader}
 
@@ -36,7 +36,7 @@ field-wide b = by-cond (λ (n : ℕ). n ≤ 32) (ltb (b % 32) 7) 8 (b % 32 + 1) 
 display-fits : (b : ℕ) → displayWidth b ≤ 2
 display-fits b = by-cond (λ (n : ℕ). n ≤ 2) (eqb (b % 4) 3) 1 (b % 4) (λ e. omega arith) (λ e. omega (arith, eqb-false (b % 4) 3 e))
 
-module _ (mem : List ℕ) (bytes : (i : ℕ) → getD mem i 0 < 256) where
+module _ (mem : List ℕ) (bytes : Bytes mem) where
   cell : (at k : ℕ) → byteAt mem at k < 256
   cell at k = bytes (place (length mem) (at + k))
 
@@ -58,7 +58,7 @@ record Fits (d : ℕ) (r : Reader) : Type 0 where
   look : LookFits (r .settings .look)
   position : r .position < 524288
 
-module _ (mem : List ℕ) (bytes : (i : ℕ) → getD mem i 0 < 256) (c d : ℕ) where
+module _ (mem : List ℕ) (bytes : Bytes mem) (c d : ℕ) where
   further : (n k : ℕ) → (n + k) % 524288 < 524288
   further n k = mod-lt (n + k) (omega arith)
 
@@ -182,7 +182,7 @@ module _ (mem : List ℕ) (bytes : (i : ℕ) → getD mem i 0 < 256) (c d : ℕ)
       look-group-fits _ (field-fits _ (map-group-fits _ (font-fits _ (scroll-fits _ (address-group-fits _ (repeat-fits r f))))))
 
 -- a sound frame's record leaves sound settings, and a position of 19 bits
-module _ (mem : List ℕ) (bytes : (i : ℕ) → getD mem i 0 < 256) (r : Reader) (f : SettingsFit (r .settings)) where
+module _ (mem : List ℕ) (bytes : Bytes mem) (r : Reader) (f : SettingsFit (r .settings)) where
   read-fits : Fits (byteAt mem (r .position) 1) (fetchedBy mem (byteAt mem (r .position) 0) (byteAt mem (r .position) 1) (controlled (byteAt mem (r .position) 0) (byteAt mem (r .position) 1) r))
   read-fits = fetched-fits mem bytes (byteAt mem (r .position) 0) (byteAt mem (r .position) 1) _ (controlled-fits mem bytes (byteAt mem (r .position) 0) (byteAt mem (r .position) 1) r f)
 

@@ -1,124 +1,33 @@
--- The same overlay, map or reader with other parts.
+-- The same reader further on in the list, with other settings.
 use mathlib.Core.Bool.{Bool}
 use Prim.Native.Nat.{ℕ, _+_, _%_}
+use Rattle.settings.specs.Parts.{withOverlay, withMap, withLook}
+use Rattle.settings.specs.declared.Settings.{Settings}
 use Rattle.settings.specs.declared.Overlay.{Overlay}
 use Rattle.settings.specs.declared.Map.{Map}
 use Rattle.settings.specs.declared.Look.{Look}
 use Rattle.record.specs.declared.Reader.{Reader}
 
--- an overlay in another mode, with another address and step, other scrolls, another font
-abbrev pub inMode : ℕ → Overlay → Overlay
-inMode mode o =
-    record {
-      mode = mode;
-      address = o .address;
-      step = o .step;
-      hscroll = o .hscroll;
-      vscroll = o .vscroll;
-      font = o .font;
-      counter = o .counter;
-    }
+-- a reader n bytes further on, with other settings
+abbrev pub readOn : ℕ → Settings → Reader → Reader
+readOn n s r = record { settings = s; position = (r .position + n) % 524288; repeat = r .repeat; ended = r .ended }
 
-abbrev pub stepping : ℕ → ℕ → Overlay → Overlay
-stepping address step o =
-    record {
-      mode = o .mode;
-      address = address;
-      step = step;
-      hscroll = o .hscroll;
-      vscroll = o .vscroll;
-      font = o .font;
-      counter = o .counter;
-    }
-
-abbrev pub scrolled : ℕ → ℕ → Overlay → Overlay
-scrolled hscroll vscroll o =
-    record {
-      mode = o .mode;
-      address = o .address;
-      step = o .step;
-      hscroll = hscroll;
-      vscroll = vscroll;
-      font = o .font;
-      counter = o .counter;
-    }
-
-abbrev pub inFont : ℕ → Overlay → Overlay
-inFont font o =
-    record {
-      mode = o .mode;
-      address = o .address;
-      step = o .step;
-      hscroll = o .hscroll;
-      vscroll = o .vscroll;
-      font = font;
-      counter = o .counter;
-    }
-
--- a map switched on or off, with another address and step, with other fields
-abbrev pub switched : Bool → Map → Map
-switched on p =
-    record {
-      on = on;
-      address = p .address;
-      step = p .step;
-      hscroll = p .hscroll;
-      vscroll = p .vscroll;
-      width = p .width;
-      height = p .height;
-      counter = p .counter;
-    }
-
-abbrev pub mapStepping : ℕ → ℕ → Map → Map
-mapStepping address step p =
-    record {
-      on = p .on;
-      address = address;
-      step = step;
-      hscroll = p .hscroll;
-      vscroll = p .vscroll;
-      width = p .width;
-      height = p .height;
-      counter = p .counter;
-    }
-
-abbrev pub fielded : ℕ → ℕ → ℕ → ℕ → Map → Map
-fielded hscroll vscroll width height p =
-    record {
-      on = p .on;
-      address = p .address;
-      step = p .step;
-      hscroll = hscroll;
-      vscroll = vscroll;
-      width = width;
-      height = height;
-      counter = p .counter;
-    }
-
--- a reader n bytes further on, with another overlay, map or look
+-- the same, with another overlay, map or look
 abbrev pub overlaid : ℕ → Overlay → Reader → Reader
-overlaid n o r =
-    record {
-      settings = record { overlay = o; map = r .settings .map; look = r .settings .look };
-      position = (r .position + n) % 524288;
-      repeat = r .repeat;
-      ended = r .ended;
-    }
+overlaid n o r = readOn n (withOverlay o (r .settings)) r
 
 abbrev pub mapped : ℕ → Map → Reader → Reader
-mapped n p r =
-    record {
-      settings = record { overlay = r .settings .overlay; map = p; look = r .settings .look };
-      position = (r .position + n) % 524288;
-      repeat = r .repeat;
-      ended = r .ended;
-    }
+mapped n p r = readOn n (withMap p (r .settings)) r
 
 abbrev pub looked : ℕ → Look → Reader → Reader
-looked n l r =
-    record {
-      settings = record { overlay = r .settings .overlay; map = r .settings .map; look = l };
-      position = (r .position + n) % 524288;
-      repeat = r .repeat;
-      ended = r .ended;
-    }
+looked n l r = readOn n (withLook l (r .settings)) r
+
+-- a reader where it is: with other settings, with another repeat, ended or not
+abbrev pub withSettings : Settings → Reader → Reader
+withSettings s r = record { settings = s; position = r .position; repeat = r .repeat; ended = r .ended }
+
+abbrev pub repeating : ℕ → Reader → Reader
+repeating repeat r = record { settings = r .settings; position = r .position; repeat = repeat; ended = r .ended }
+
+abbrev pub endedBy : Bool → Reader → Reader
+endedBy ended r = record { settings = r .settings; position = r .position; repeat = r .repeat; ended = ended }

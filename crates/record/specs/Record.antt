@@ -4,10 +4,10 @@ use mathlib.Core.List.{List}
 use Prim.Native.Nat.{ℕ, _+_, _/_, _%_}
 use lib.Dec.{eqb, ltb}
 use Rattle.laws.specs.Bit.{bit}
-use Rattle.settings.specs.Settings.{overlayAt, mapAt}
+use Rattle.settings.specs.Parts.{overlayAt, inMode, stepping, scrolled, inFont, mapAt, switched, mapStepping, fielded, withOverlay, withMap}
 use Rattle.settings.specs.declared.Look.{Look}
 use Rattle.vram.specs.Memory.{byteAt, number12, number19}
-use Rattle.record.specs.Parts.{inMode, stepping, scrolled, inFont, switched, mapStepping, fielded, overlaid, mapped, looked}
+use Rattle.record.specs.Parts.{readOn, overlaid, mapped, looked, withSettings, repeating, endedBy}
 use Rattle.record.specs.declared.Reader.{Reader}
 
 -- "GMON gives SR, HR or LR by byte 2 bits 4 and 5, both set gives off (ours)": HR is bit 4, LR bit 5
@@ -47,24 +47,14 @@ lookAt mem at k =
 unfoldable pub controlled : ℕ → ℕ → Reader → Reader
 controlled c d r =
     let s = r .settings in
-    record {
-      settings = record {
-        overlay = inMode (overlayMode c d (s .overlay .mode)) (s .overlay);
-        map = switched (mapSwitch c (s .map .on)) (s .map);
-        look = s .look;
-      };
-      position = (r .position + 2) % 524288;
-      repeat = r .repeat;
-      ended = bit d 7;
-    }
+    let o = inMode (overlayMode c d (s .overlay .mode)) (s .overlay) in
+    let p = switched (mapSwitch c (s .map .on)) (s .map) in
+    endedBy (bit d 7) (readOn 2 (withMap p (withOverlay o s)) r)
 
 -- "XDLC_RPTL (1 byte)"; "RPTL sets repeat; without it repeat is 0"
 unfoldable pub repeatGroup : List ℕ → ℕ → Reader → Reader
 repeatGroup mem c r =
-    let at = r .position in
-    cond (bit c 5)
-    (record { settings = r .settings; position = (at + 1) % 524288; repeat = byteAt mem at 0; ended = r .ended })
-    (record { settings = r .settings; position = at; repeat = 0; ended = r .ended })
+    cond (bit c 5) (repeating (byteAt mem (r .position) 0) (readOn 1 (r .settings) r)) (repeating 0 r)
 
 -- "XDLC_OVADR (5 bytes)"
 unfoldable pub addressGroup : List ℕ → ℕ → Reader → Reader
@@ -113,16 +103,9 @@ unfoldable pub restarted : ℕ → ℕ → Reader → Reader
 restarted c d r =
     let o = r .settings .overlay in
     let p = r .settings .map in
-    record {
-      settings = record {
-        overlay = overlayAt (o .address) (cond (textRestarts c) 0 (o .counter)) o;
-        map = mapAt (p .address) (cond (fieldRestarts d) 0 (p .counter)) p;
-        look = r .settings .look;
-      };
-      position = r .position;
-      repeat = r .repeat;
-      ended = r .ended;
-    }
+    let o1 = overlayAt (o .address) (cond (textRestarts c) 0 (o .counter)) o in
+    let p1 = mapAt (p .address) (cond (fieldRestarts d) 0 (p .counter)) p in
+    withSettings (withMap p1 (withOverlay o1 (r .settings))) r
 
 -- "The order of fetching data in the XDL": the data that the control bytes announce, first to last
 abbrev pub fetchedBy : List ℕ → ℕ → ℕ → Reader → Reader

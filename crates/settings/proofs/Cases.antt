@@ -3,7 +3,8 @@ use mathlib.Core.Path.{_≡_}
 use mathlib.Core.Bool.{true, false}
 use Prim.Native.Nat.{_+_, _%_, _≤_, _<_}
 use borrow.Author.Tests.{lt-ltb, le-ltb, ne-eqb}
-use Rattle.settings.specs.Settings.{overlayAt, mapAt, advancedOverlay, advancedMap}
+use Rattle.settings.specs.Parts.{overlayAt, mapAt}
+use Rattle.settings.specs.Settings.{advancedOverlay, advancedMap}
 use Rattle.settings.specs.declared.Overlay.{Overlay}
 use Rattle.settings.specs.declared.Map.{Map}
 

@@ -1,31 +1,19 @@
 -- Sound settings: the row of tests taken apart into facts and put together again; beginning, advancing and going dark keep it. Assumes nothing.
 use mathlib.Core.Path.{_≡_, refl}
-use mathlib.Core.Bool.{Bool, true, _&&_}
-use mathlib.Core.List.{List, [], _∷_}
+use mathlib.Core.Bool.{true}
+use mathlib.Core.List.{[], _∷_}
 use Prim.Native.Nat.{ℕ, _+_, _%_, _≤_, _<_}
 use native.Mathlib.Nat.{mod-lt}
 use native.Mathlib.Omega.{arith}
 use lib.Dec.{eqb, ltb, leb}
 use borrow.Author.Tests.{ltb-true, leb-true, lt-ltb, le-leb}
-use Rattle.laws.proofs.Choice.{by-cond, both}
-use Rattle.settings.specs.Settings.{beginning, soundOverlay, soundMap, soundLook, soundSettings, overlayAt, mapAt, advancedOverlay, advancedMap, advanced, off}
+use Rattle.laws.proofs.Choice.{by-cond, each-test}
+use Rattle.settings.specs.Settings.{beginning, soundOverlay, soundMap, soundLook, soundSettings, advancedOverlay, advancedMap, advanced, off}
+use Rattle.settings.specs.Parts.{overlayAt, mapAt}
 use Rattle.settings.specs.declared.Settings.{Settings}
 use Rattle.settings.specs.declared.Overlay.{Overlay}
 use Rattle.settings.specs.declared.Map.{Map}
 use Rattle.settings.specs.declared.Look.{Look}
-
--- a row of tests, joined from the left as `a & b & c` is; where it is true, each test is
-abbrev row : Bool → List Bool → Bool
-row b [] = b
-row b (x ∷ l) = row (b && x) l
-
-abbrev Each : List Bool → Type 0
-Each [] = Unit
-Each (x ∷ l) = (x ≡ true) × Each l
-
-each : (b : Bool) (l : List Bool) → row b l ≡ true → (b ≡ true) × Each l
-each b [] e = (e, tt)
-each b (x ∷ l) e = let r = each (b && x) l e in let t = both b x (r .0) in (t .0, (t .1, r .1))
 
 -- what each test says
 pub record OverlayFits (o : Overlay) : Type 0 where
@@ -59,7 +47,7 @@ pub record SettingsFit (s : Settings) : Type 0 where
 
 pub overlay-fits : (o : Overlay) → soundOverlay o ≡ true → OverlayFits o
 overlay-fits o e =
-    let r = each (leb (o .mode) 4) (ltb (o .address) 524288 ∷ ltb (o .step) 4096 ∷ ltb (o .hscroll) 8 ∷ ltb (o .vscroll) 8 ∷ ltb (o .counter) 8 ∷ []) e in
+    let r = each-test (leb (o .mode) 4) (ltb (o .address) 524288 ∷ ltb (o .step) 4096 ∷ ltb (o .hscroll) 8 ∷ ltb (o .vscroll) 8 ∷ ltb (o .counter) 8 ∷ []) e in
     record {
       mode = leb-true _ _ (r .0);
       address = ltb-true _ _ (r .1 .0);
@@ -71,7 +59,7 @@ overlay-fits o e =
 
 pub map-fits : (p : Map) → soundMap p ≡ true → MapFits p
 map-fits p e =
-    let r = each (ltb (p .address) 524288) (ltb (p .step) 4096 ∷ ltb (p .hscroll) 32 ∷ ltb (p .vscroll) 32 ∷ leb 8 (p .width) ∷ leb (p .width) 32 ∷ leb 1 (p .height) ∷ leb (p .height) 32 ∷ ltb (p .counter) (p .height) ∷ []) e in
+    let r = each-test (ltb (p .address) 524288) (ltb (p .step) 4096 ∷ ltb (p .hscroll) 32 ∷ ltb (p .vscroll) 32 ∷ leb 8 (p .width) ∷ leb (p .width) 32 ∷ leb 1 (p .height) ∷ leb (p .height) 32 ∷ ltb (p .counter) (p .height) ∷ []) e in
     let s = r .1 .1 .1 in
     record {
       address = ltb-true _ _ (r .0);
@@ -87,12 +75,12 @@ map-fits p e =
 
 pub look-fits : (l : Look) → soundLook l ≡ true → LookFits l
 look-fits l e =
-    let r = each (leb (l .width) 2) (ltb (l .palette) 4 ∷ ltb (l .playfield) 4 ∷ []) e in
+    let r = each-test (leb (l .width) 2) (ltb (l .palette) 4 ∷ ltb (l .playfield) 4 ∷ []) e in
     record { width = leb-true _ _ (r .0); palette = ltb-true _ _ (r .1 .0); playfield = ltb-true _ _ (r .1 .1 .0) }
 
 pub settings-fit : (s : Settings) → soundSettings s ≡ true → SettingsFit s
 settings-fit s e =
-    let r = each (soundOverlay (s .overlay)) (soundMap (s .map) ∷ soundLook (s .look) ∷ []) e in
+    let r = each-test (soundOverlay (s .overlay)) (soundMap (s .map) ∷ soundLook (s .look) ∷ []) e in
     record { overlay = overlay-fits (s .overlay) (r .0); map = map-fits (s .map) (r .1 .0); look = look-fits (s .look) (r .1 .1 .0) }
 
 -- and back

@@ -1,16 +1,16 @@
 -- What advancing makes of an address and a counter some lines below a band's first line. A counter that turns at h steps its address
 -- every h lines: one law for pixels (h = 1), text (h = 8) and the map (h = its height). Assumes nothing.
-use mathlib.Core.Path.{_≡_, refl, sym, ap, _∙_}
+use mathlib.Core.Path.{_≡_, refl, sym, ap, ap₂, _∙_}
 use mathlib.Core.Bool.{Bool, true, false, cond}
 use Prim.Native.Nat.{ℕ, _+_, _*_, _/_, _%_, _≤_, _<_}
-use native.Mathlib.Nat.{div-add-mod', mod-lt, mod-add-mod, mod-eq-of-lt, zero-mod, zero-div, zero-mul, add-zero, add-mul}
+use native.Mathlib.Nat.{div-add-mod', mod-lt, mod-add-mod, mod-eq-of-lt, div-eq-of-lt, zero-mul, add-zero, add-mul}
 use native.Mathlib.Omega.{arith}
 use lib.Arith.{digits-div, digits-mod}
 use lib.Dec.{eqb, ltb}
 use borrow.Author.Tests.{eqb-true, eqb-false, ltb-true, ltb-false, ne-eqb}
-use Rattle.laws.proofs.Choice.{by-cond}
-use Rattle.settings.specs.Settings.{advancedOverlay, advancedMap, advanced, off, overlayAt, mapAt}
-use Rattle.settings.specs.Below.{overlaySteps, overlayBelow, mapBelow, settingsBelow}
+use Rattle.settings.specs.Parts.{overlayAt, mapAt, withOverlay, withMap}
+use Rattle.settings.specs.Settings.{advancedOverlay, advancedMap, advanced, off}
+use Rattle.settings.specs.Below.{overlayBelow, mapBelow, settingsBelow}
 use Rattle.settings.proofs.Cases.{overlay-off, text-more, text-full, pixels, map-off, field-more, field-full}
 use Rattle.settings.specs.declared.Settings.{Settings}
 use Rattle.settings.specs.declared.Overlay.{Overlay}
@@ -20,24 +20,31 @@ use Rattle.settings.specs.declared.Map.{Map}
 pub step-more : (a s n : ℕ) → ((a + n * s) % 524288 + s) % 524288 ≡ (a + (n + 1) * s) % 524288
 step-more a s n = mod-add-mod (a + n * s) 524288 s ∙ ap (λ (x : ℕ). x % 524288) (omega (arith, add-mul n 1 s))
 
--- k lines below: the address has made k / h steps and the counter is k % h. One line more: inside a turn of h lines, and at its end.
-module _ (h a s k : ℕ) {A : Type 0} (put : ℕ → ℕ → A) where
-  whole : k + 1 ≡ k / h * h + (k % h + 1)
-  whole = omega (arith, div-add-mod' k h)
+-- a counter that began at c, k lines below: the address has made (c + k) / h steps, and the counter is (c + k) % h. One line more: inside a
+-- turn of h lines, and at its end.
+module _ (h a s c k : ℕ) {A : Type 0} (put : ℕ → ℕ → A) where
+  abbrev now : ℕ
+  now = c + k
 
-  pub ticked-inside : k % h + 1 < h → put ((a + k / h * s) % 524288) (k % h + 1) ≡ put ((a + (k + 1) / h * s) % 524288) ((k + 1) % h)
+  abbrev next : ℕ
+  next = c + (k + 1)
+
+  whole : next ≡ now / h * h + (now % h + 1)
+  whole = omega (arith, div-add-mod' now h)
+
+  pub ticked-inside : now % h + 1 < h → put ((a + now / h * s) % 524288) (now % h + 1) ≡ put ((a + next / h * s) % 524288) (next % h)
   ticked-inside l =
-      let count : (k + 1) % h ≡ k % h + 1 = ap (λ (x : ℕ). x % h) whole ∙ digits-mod (k / h) l in
-      let steps : (k + 1) / h ≡ k / h = ap (λ (x : ℕ). x / h) whole ∙ digits-div (k / h) l in
+      let count : next % h ≡ now % h + 1 = ap (λ (x : ℕ). x % h) whole ∙ digits-mod (now / h) l in
+      let steps : next / h ≡ now / h = ap (λ (x : ℕ). x / h) whole ∙ digits-div (now / h) l in
       simp (count, steps)
 
-  turn : 0 < h → h ≤ k % h + 1 → k + 1 ≡ (k / h + 1) * h + 0
-  turn pos l = omega (arith, whole, mod-lt k pos, add-mul (k / h) 1 h)
+  turn : 0 < h → h ≤ now % h + 1 → next ≡ (now / h + 1) * h + 0
+  turn pos l = omega (arith, whole, mod-lt now pos, add-mul (now / h) 1 h)
 
-  pub ticked-turn : 0 < h → h ≤ k % h + 1 → put (((a + k / h * s) % 524288 + s) % 524288) 0 ≡ put ((a + (k + 1) / h * s) % 524288) ((k + 1) % h)
+  pub ticked-turn : 0 < h → h ≤ now % h + 1 → put (((a + now / h * s) % 524288 + s) % 524288) 0 ≡ put ((a + next / h * s) % 524288) (next % h)
   ticked-turn pos l =
-      let count : (k + 1) % h ≡ 0 = ap (λ (x : ℕ). x % h) (turn pos l) ∙ digits-mod (k / h + 1) pos in
-      let steps : (k + 1) / h ≡ k / h + 1 = ap (λ (x : ℕ). x / h) (turn pos l) ∙ digits-div (k / h + 1) pos in
+      let count : next % h ≡ 0 = ap (λ (x : ℕ). x % h) (turn pos l) ∙ digits-mod (now / h + 1) pos in
+      let steps : next / h ≡ now / h + 1 = ap (λ (x : ℕ). x / h) (turn pos l) ∙ digits-div (now / h + 1) pos in
       simp (count, steps, step-more)
 
 module _ (o : Overlay) where
@@ -46,7 +53,7 @@ module _ (o : Overlay) where
   unfolding overlayBelow
   off-below k m = simp m
 
-  pub text-below : (k : ℕ) → o .mode ≡ 1 → overlayBelow o k ≡ overlayAt ((o .address + k / 8 * o .step) % 524288) (k % 8) o
+  pub text-below : (k : ℕ) → o .mode ≡ 1 → overlayBelow o k ≡ overlayAt ((o .address + (o .counter + k) / 8 * o .step) % 524288) ((o .counter + k) % 8) o
   unfolding overlayBelow
   text-below k m = simp m
 
@@ -55,20 +62,20 @@ module _ (o : Overlay) where
   pixels-below k m n = simp (ne-eqb _ _ m, ne-eqb _ _ n)
 
   pub overlay-below : (k : ℕ) → advancedOverlay (overlayBelow o k) ≡ overlayBelow o (k + 1)
-  overlay-below k = by (eqb (o .mode) 0) refl (eqb (o .mode) 1) refl (ltb (k % 8) 7) refl
+  overlay-below k = by (eqb (o .mode) 0) refl (eqb (o .mode) 1) refl (ltb ((o .counter + k) % 8) 7) refl
     where
-      by : (x : Bool) → eqb (o .mode) 0 ≡ x → (y : Bool) → eqb (o .mode) 1 ≡ y → (z : Bool) → ltb (k % 8) 7 ≡ z → advancedOverlay (overlayBelow o k) ≡ overlayBelow o (k + 1)
+      by : (x : Bool) → eqb (o .mode) 0 ≡ x → (y : Bool) → eqb (o .mode) 1 ≡ y → (z : Bool) → ltb ((o .counter + k) % 8) 7 ≡ z → advancedOverlay (overlayBelow o k) ≡ overlayBelow o (k + 1)
       by true p y q z r =
           let m = eqb-true (o .mode) 0 p in
           ap advancedOverlay (off-below k m) ∙ overlay-off _ m ∙ sym (off-below (k + 1) m)
       by false p true q true r =
           let m = eqb-true (o .mode) 1 q in
-          let l = ltb-true (k % 8) 7 r in
-          ap advancedOverlay (text-below k m) ∙ text-more _ m l ∙ ticked-inside 8 (o .address) (o .step) k (λ a c. overlayAt a c o) (omega arith) ∙ sym (text-below (k + 1) m)
+          let l = ltb-true ((o .counter + k) % 8) 7 r in
+          ap advancedOverlay (text-below k m) ∙ text-more _ m l ∙ ticked-inside 8 (o .address) (o .step) (o .counter) k (λ a c. overlayAt a c o) (omega arith) ∙ sym (text-below (k + 1) m)
       by false p true q false r =
           let m = eqb-true (o .mode) 1 q in
-          let l = ltb-false (k % 8) 7 r in
-          ap advancedOverlay (text-below k m) ∙ text-full _ m l ∙ ticked-turn 8 (o .address) (o .step) k (λ a c. overlayAt a c o) (omega arith) (omega arith) ∙ sym (text-below (k + 1) m)
+          let l = ltb-false ((o .counter + k) % 8) 7 r in
+          ap advancedOverlay (text-below k m) ∙ text-full _ m l ∙ ticked-turn 8 (o .address) (o .step) (o .counter) k (λ a c. overlayAt a c o) (omega arith) (omega arith) ∙ sym (text-below (k + 1) m)
       by false p false q z r =
           let m = eqb-false (o .mode) 0 p in
           let n = eqb-false (o .mode) 1 q in
@@ -79,20 +86,20 @@ module _ (p : Map) where
   unfolding mapBelow
   off-map-below k e = simp e
 
-  pub on-map-below : (k : ℕ) → p .on ≡ true → mapBelow p k ≡ mapAt ((p .address + k / p .height * p .step) % 524288) (k % p .height) p
+  pub on-map-below : (k : ℕ) → p .on ≡ true → mapBelow p k ≡ mapAt ((p .address + (p .counter + k) / p .height * p .step) % 524288) ((p .counter + k) % p .height) p
   unfolding mapBelow
   on-map-below k e = simp e
 
   pub map-below : (k : ℕ) → 1 ≤ p .height → advancedMap (mapBelow p k) ≡ mapBelow p (k + 1)
-  map-below k pos = by (p .on) refl (ltb (k % p .height + 1) (p .height)) refl
+  map-below k pos = by (p .on) refl (ltb ((p .counter + k) % p .height + 1) (p .height)) refl
     where
-      by : (x : Bool) → p .on ≡ x → (y : Bool) → ltb (k % p .height + 1) (p .height) ≡ y → advancedMap (mapBelow p k) ≡ mapBelow p (k + 1)
+      by : (x : Bool) → p .on ≡ x → (y : Bool) → ltb ((p .counter + k) % p .height + 1) (p .height) ≡ y → advancedMap (mapBelow p k) ≡ mapBelow p (k + 1)
       by true e true r =
-          let l = ltb-true (k % p .height + 1) (p .height) r in
-          ap advancedMap (on-map-below k e) ∙ field-more _ e l ∙ ticked-inside (p .height) (p .address) (p .step) k (λ a c. mapAt a c p) l ∙ sym (on-map-below (k + 1) e)
+          let l = ltb-true ((p .counter + k) % p .height + 1) (p .height) r in
+          ap advancedMap (on-map-below k e) ∙ field-more _ e l ∙ ticked-inside (p .height) (p .address) (p .step) (p .counter) k (λ a c. mapAt a c p) l ∙ sym (on-map-below (k + 1) e)
       by true e false r =
-          let l = ltb-false (k % p .height + 1) (p .height) r in
-          ap advancedMap (on-map-below k e) ∙ field-full _ e l ∙ ticked-turn (p .height) (p .address) (p .step) k (λ a c. mapAt a c p) pos l ∙ sym (on-map-below (k + 1) e)
+          let l = ltb-false ((p .counter + k) % p .height + 1) (p .height) r in
+          ap advancedMap (on-map-below k e) ∙ field-full _ e l ∙ ticked-turn (p .height) (p .address) (p .step) (p .counter) k (λ a c. mapAt a c p) pos l ∙ sym (on-map-below (k + 1) e)
       by false e y r = ap advancedMap (off-map-below k e) ∙ map-off _ e ∙ sym (off-map-below (k + 1) e)
 
 -- a line advances the settings k lines below a band's first line to those one line more below
@@ -100,27 +107,36 @@ pub settings-below : (s : Settings) (k : ℕ) → 1 ≤ s .map .height → advan
 unfolding advanced settingsBelow
 settings-below s k pos = simp (overlay-below, map-below (s .map) k pos)
 
--- a band's first line, where its counters are 0
+-- a band's first line
 first-address : (a s : ℕ) → a < 524288 → (a + 0 * s) % 524288 ≡ a
 first-address a s l = simp (zero-mul, add-zero) (mod-eq-of-lt l)
 
-pub overlay-first : (o : Overlay) → o .address < 524288 → o .counter ≡ 0 → overlayBelow o 0 ≡ o
+module _ (h c : ℕ) (l : c < h) where
+  no-step : (c + 0) / h ≡ 0
+  no-step = ap (λ (x : ℕ). x / h) (add-zero c) ∙ div-eq-of-lt l
+
+  same-count : (c + 0) % h ≡ c
+  same-count = ap (λ (x : ℕ). x % h) (add-zero c) ∙ mod-eq-of-lt l
+
+same-choice : (t : Bool) (n : ℕ) → cond t n n ≡ n
+same-choice true n = refl
+same-choice false n = refl
+
+pub overlay-first : (o : Overlay) → o .address < 524288 → o .counter < 8 → overlayBelow o 0 ≡ o
 unfolding overlayBelow
 overlay-first o l z =
-    let none : overlaySteps o 0 ≡ 0 = by-cond (λ (n : ℕ). n ≡ 0) (eqb (o .mode) 0) 0 (cond (eqb (o .mode) 1) (0 / 8) 0) (λ e. refl) (λ e. by-cond (λ (n : ℕ). n ≡ 0) (eqb (o .mode) 1) (0 / 8) 0 (λ f. refl) (λ f. refl)) in
-    let kept : cond (eqb (o .mode) 1) (0 % 8) (o .counter) ≡ o .counter = by-cond (λ (n : ℕ). n ≡ o .counter) (eqb (o .mode) 1) (0 % 8) (o .counter) (λ e. sym z) (λ e. refl) in
-    simp (none, kept, first-address (o .address) (o .step) l)
+    simp (no-step 8 (o .counter) z, same-count 8 (o .counter) z, same-choice, first-address (o .address) (o .step) l)
 
-pub map-first : (p : Map) → p .address < 524288 → p .counter ≡ 0 → mapBelow p 0 ≡ p
+pub map-first : (p : Map) → p .address < 524288 → p .counter < p .height → mapBelow p 0 ≡ p
 unfolding mapBelow
 map-first p l z =
-    let none : cond (p .on) (0 / p .height) 0 ≡ 0 = by-cond (λ (n : ℕ). n ≡ 0) (p .on) (0 / p .height) 0 (λ e. zero-div (p .height)) (λ e. refl) in
-    let kept : cond (p .on) (0 % p .height) (p .counter) ≡ p .counter = by-cond (λ (n : ℕ). n ≡ p .counter) (p .on) (0 % p .height) (p .counter) (λ e. zero-mod (p .height) ∙ sym z) (λ e. refl) in
-    simp (none, kept, first-address (p .address) (p .step) l)
+    simp (no-step (p .height) (p .counter) z, same-count (p .height) (p .counter) z, same-choice, first-address (p .address) (p .step) l)
 
-pub settings-first : (s : Settings) → s .overlay .address < 524288 → s .overlay .counter ≡ 0 → s .map .address < 524288 → s .map .counter ≡ 0 → settingsBelow s 0 ≡ s
+pub settings-first :
+    (s : Settings) → s .overlay .address < 524288 → s .overlay .counter < 8 → s .map .address < 524288 → s .map .counter < s .map .height
+    → settingsBelow s 0 ≡ s
 unfolding settingsBelow
-settings-first s l z m y = simp (overlay-first (s .overlay) l z, map-first (s .map) m y)
+settings-first s l z m y = ap₂ (λ (o : Overlay) (p : Map). withMap p (withOverlay o s)) (overlay-first (s .overlay) l z) (map-first (s .map) m y)
 
 -- what is off stays as it is: no advance adds to it
 pub advanced-off : (s : Settings) → advanced (off s) ≡ off s

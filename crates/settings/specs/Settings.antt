@@ -1,7 +1,8 @@
 -- Document 01, "The XDL and its 240 lines": the settings of a line, how they begin, which are sound, and how a line advances them.
 use mathlib.Core.Bool.{Bool, true, false, cond, _&&_}
-use Prim.Native.Nat.{ℕ, _+_, _%_}
+use Prim.Native.Nat.{_+_, _%_}
 use lib.Dec.{eqb, ltb, leb}
+use Rattle.settings.specs.Parts.{overlayAt, inMode, mapAt, switched, withOverlay, withMap}
 use Rattle.settings.specs.declared.Settings.{Settings}
 use Rattle.settings.specs.declared.Overlay.{Overlay}
 use Rattle.settings.specs.declared.Map.{Map}
@@ -44,32 +45,6 @@ soundLook l = leb (l .width) 2 && ltb (l .palette) 4 && ltb (l .playfield) 4
 abbrev pub soundSettings : Settings → Bool
 soundSettings s = soundOverlay (s .overlay) && soundMap (s .map) && soundLook (s .look)
 
--- the same overlay or map at another address and counter
-abbrev pub overlayAt : ℕ → ℕ → Overlay → Overlay
-overlayAt address counter o =
-    record {
-      mode = o .mode;
-      address = address;
-      step = o .step;
-      hscroll = o .hscroll;
-      vscroll = o .vscroll;
-      font = o .font;
-      counter = counter;
-    }
-
-abbrev pub mapAt : ℕ → ℕ → Map → Map
-mapAt address counter p =
-    record {
-      on = p .on;
-      address = address;
-      step = p .step;
-      hscroll = p .hscroll;
-      vscroll = p .vscroll;
-      width = p .width;
-      height = p .height;
-      counter = counter;
-    }
-
 -- "SR, HR, LR add OVSTEP. Text adds 1 to the text counter; at 8 it adds OVSTEP and the counter is 0. Off adds nothing."
 unfoldable pub advancedOverlay : Overlay → Overlay
 advancedOverlay o =
@@ -90,32 +65,8 @@ advancedMap p =
     p
 
 unfoldable pub advanced : Settings → Settings
-advanced s = record { overlay = advancedOverlay (s .overlay); map = advancedMap (s .map); look = s .look }
+advanced s = withMap (advancedMap (s .map)) (withOverlay (advancedOverlay (s .overlay)) s)
 
 -- "overlay and map are off .. and all else is held"
 unfoldable pub off : Settings → Settings
-off s =
-    let o = s .overlay in
-    let p = s .map in
-    record {
-      overlay = record {
-        mode = 0;
-        address = o .address;
-        step = o .step;
-        hscroll = o .hscroll;
-        vscroll = o .vscroll;
-        font = o .font;
-        counter = o .counter;
-      };
-      map = record {
-        on = false;
-        address = p .address;
-        step = p .step;
-        hscroll = p .hscroll;
-        vscroll = p .vscroll;
-        width = p .width;
-        height = p .height;
-        counter = p .counter;
-      };
-      look = s .look;
-    }
+off s = withMap (switched false (s .map)) (withOverlay (inMode 0 (s .overlay)) s)

@@ -14,6 +14,9 @@ use Rattle.item.specs.declared.Running.{Running}
 use Rattle.item.proofs.Ranges.{full-fits, running-fits}
 use Rattle.plan.specs.Xdl.{overlayBit, mapBit, resolutionBit, endBit, fullRecord, runningRecord}
 use Rattle.plan.specs.Meaning.{itemLook, fullSettings, runningSettings}
+use Rattle.settings.specs.Parts.{overlayAt, inMode, stepping, scrolled, inFont, mapAt, switched, mapStepping, fielded, withOverlay, withMap, withLook}
+use Rattle.settings.specs.declared.Settings.{Settings}
+use Rattle.record.specs.Parts.{readOn, repeating, endedBy}
 use Rattle.record.specs.Record.{overlayMode, mapSwitch, fieldWidth, displayWidth, lookAt, recordOf}
 use Rattle.record.specs.declared.Reader.{Reader}
 use Rattle.record.proofs.Readback as readback
@@ -146,9 +149,13 @@ module _ (mem : List ℕ) (r : Reader) where
   abbrev at : ℕ
   at = r .position
 
+  -- the reader behind a record of n bytes
+  abbrev behind : ℕ → ℕ → Bool → Settings → Reader
+  behind n repeat last s = endedBy last (repeating repeat (readOn n s r))
+
   pub read-full :
       (b : Full) (last : Bool) → soundFull b ≡ true → Holds mem at (fullRecord b last)
-      → recordOf mem r ≡ record { settings = fullSettings b; position = (at + 22) % 524288; repeat = b .lines - 1; ended = last }
+      → recordOf mem r ≡ behind 22 (b .lines - 1) last (fullSettings b)
   unfolding fullRecord fullSettings
   read-full b last s h =
       let f = full-fits b s in
@@ -160,58 +167,33 @@ module _ (mem : List ℕ) (r : Reader) where
       let ended = full-end (b .mode) (b .map) last m p e in
       by-control mem r _ _ (h 0 (lit< tt)) (h 1 (lit< tt))
       ∙ (full-record mem r _ _ (full-announced (b .mode) (b .map) last m p e)
-      ∙ λ i. record {
-        settings = record {
-          overlay = record {
-            mode = mode i;
-            address = address-back (b .address) _ _ (h 3 (lit< tt)) (h 4 (lit< tt)) _ (h 5 (lit< tt)) (f .address) i;
-            step = step-back (b .step) _ _ (h 6 (lit< tt)) (h 7 (lit< tt)) (f .step) i;
-            hscroll = scroll-back (b .hscroll) _ (h 8 (lit< tt)) (f .hscroll) i;
-            vscroll = scroll-back (b .vscroll) _ (h 9 (lit< tt)) (f .vscroll) i;
-            font = h 10 (lit< tt) i;
-            counter = 0;
-          };
-          map = record {
-            on = on i;
-            address = address-back (b .mapaddress) _ _ (h 11 (lit< tt)) (h 12 (lit< tt)) _ (h 13 (lit< tt)) (f .mapaddress) i;
-            step = step-back (b .mapstep) _ _ (h 14 (lit< tt)) (h 15 (lit< tt)) (f .mapstep) i;
-            hscroll = map-scroll-back (b .maphscroll) _ (h 16 (lit< tt)) (f .maphscroll) i;
-            vscroll = map-scroll-back (b .mapvscroll) _ (h 17 (lit< tt)) (f .mapvscroll) i;
-            width = width-back (b .fieldwidth) _ (h 18 (lit< tt)) (f .narrow) (f .wide) i;
-            height = height-back (b .fieldheight) _ (h 19 (lit< tt)) (f .low) (f .high) i;
-            counter = 0;
-          };
-          look = look-back mem at 20 (b .width) (b .palettes) (b .priority) (h 20 (lit< tt)) (h 21 (lit< tt)) (f .width) (f .palettes) i;
-        };
-        position = (at + 22) % 524288;
-        repeat = h 2 (lit< tt) i;
-        ended = ended i;
-      })
+      ∙ λ i.
+      let address = address-back (b .address) _ _ (h 3 (lit< tt)) (h 4 (lit< tt)) _ (h 5 (lit< tt)) (f .address) i in
+      let step = step-back (b .step) _ _ (h 6 (lit< tt)) (h 7 (lit< tt)) (f .step) i in
+      let hscroll = scroll-back (b .hscroll) _ (h 8 (lit< tt)) (f .hscroll) i in
+      let vscroll = scroll-back (b .vscroll) _ (h 9 (lit< tt)) (f .vscroll) i in
+      let o = scrolled hscroll vscroll (stepping address step (inMode (mode i) (r .settings .overlay))) in
+      let mapaddress = address-back (b .mapaddress) _ _ (h 11 (lit< tt)) (h 12 (lit< tt)) _ (h 13 (lit< tt)) (f .mapaddress) i in
+      let mapstep = step-back (b .mapstep) _ _ (h 14 (lit< tt)) (h 15 (lit< tt)) (f .mapstep) i in
+      let maphscroll = map-scroll-back (b .maphscroll) _ (h 16 (lit< tt)) (f .maphscroll) i in
+      let mapvscroll = map-scroll-back (b .mapvscroll) _ (h 17 (lit< tt)) (f .mapvscroll) i in
+      let width = width-back (b .fieldwidth) _ (h 18 (lit< tt)) (f .narrow) (f .wide) i in
+      let height = height-back (b .fieldheight) _ (h 19 (lit< tt)) (f .low) (f .high) i in
+      let q = fielded maphscroll mapvscroll width height (mapStepping mapaddress mapstep (switched (on i) (r .settings .map))) in
+      let look = look-back mem at 20 (b .width) (b .palettes) (b .priority) (h 20 (lit< tt)) (h 21 (lit< tt)) (f .width) (f .palettes) i in
+      behind 22 (h 2 (lit< tt) i) (ended i) (withLook look (withMap (mapAt mapaddress 0 q) (withOverlay (overlayAt address 0 (inFont (h 10 (lit< tt) i) o)) (r .settings)))))
 
   pub read-running :
       (b : Running) (last : Bool) → soundRunning b ≡ true → Holds mem at (runningRecord b last)
-      → recordOf mem r ≡ record { settings = runningSettings b (r .settings); position = (at + 8) % 524288; repeat = b .lines - 1; ended = last }
+      → recordOf mem r ≡ behind 8 (b .lines - 1) last (runningSettings b (r .settings))
   unfolding runningRecord runningSettings
   read-running b last s h =
       let f = running-fits b s in
-      let v = r .settings .overlay in
       by-control mem r _ _ (h 0 (lit< tt)) (h 1 (lit< tt))
       ∙ (running-record mem r _ _ (running-announced last)
-      ∙ λ i. record {
-        settings = record {
-          overlay = record {
-            mode = v .mode;
-            address = v .address;
-            step = v .step;
-            hscroll = scroll-back (b .hscroll) _ (h 3 (lit< tt)) (f .hscroll) i;
-            vscroll = scroll-back (b .vscroll) _ (h 4 (lit< tt)) (f .vscroll) i;
-            font = h 5 (lit< tt) i;
-            counter = v .counter;
-          };
-          map = r .settings .map;
-          look = look-back mem at 6 (b .width) (b .palettes) (b .priority) (h 6 (lit< tt)) (h 7 (lit< tt)) (f .width) (f .palettes) i;
-        };
-        position = (at + 8) % 524288;
-        repeat = h 2 (lit< tt) i;
-        ended = running-end last i;
-      })
+      ∙ λ i.
+      let hscroll = scroll-back (b .hscroll) _ (h 3 (lit< tt)) (f .hscroll) i in
+      let vscroll = scroll-back (b .vscroll) _ (h 4 (lit< tt)) (f .vscroll) i in
+      let o = inFont (h 5 (lit< tt) i) (scrolled hscroll vscroll (r .settings .overlay)) in
+      let look = look-back mem at 6 (b .width) (b .palettes) (b .priority) (h 6 (lit< tt)) (h 7 (lit< tt)) (f .width) (f .palettes) i in
+      behind 8 (h 2 (lit< tt) i) (running-end last i) (withLook look (withOverlay o (r .settings))))

@@ -9,11 +9,13 @@ use native.Mathlib.Nat.{zero-add, add-zero, add-assoc, suc-add}
 use native.Mathlib.Omega.{arith}
 use lib.Dec.{ltb}
 use borrow.Author.Tests.{lt-ltb, le-ltb}
+use Rattle.laws.proofs.Choice.{true-false}
 use Rattle.settings.specs.Settings.{beginning, advanced, off}
 use Rattle.settings.specs.Below.{overlayBelow, mapBelow, settingsBelow}
 use Rattle.settings.specs.declared.Settings.{Settings}
 use Rattle.settings.proofs.Steps.{settings-below, settings-first, advanced-off, off-off}
 use Rattle.record.specs.declared.Reader.{Reader}
+use Rattle.frame.specs.Frame.{fetched, advancedReader}
 use Rattle.item.specs.Item.{soundItem, linesOf, isFull}
 use Rattle.item.specs.declared.Full.{Full}
 use Rattle.item.specs.declared.Running.{Running}
@@ -27,7 +29,7 @@ use Rattle.plan.specs.Rules.{StartsFull, AllSound}
 use Rattle.shows.specs.Shows.{Holds}
 use Rattle.shows.proofs.Holding.{holds-front, holds-back}
 use Rattle.shows.proofs.Reading.{read-full, read-running}
-use Rattle.shows.proofs.Seen.{fetching, further, seen, same-fetch}
+use Rattle.shows.proofs.Seen.{seen, same-fetch}
 
 -- a field of the latest band has a line
 abbrev Tall : Latest → Type 0
@@ -47,20 +49,17 @@ full-first : (b : Full) → soundItem (full b) ≡ true → fullSettings b ≡ s
 unfolding fullSettings
 full-first b s =
     let f = full-fits b s in
-    sym (settings-first (fullSettings b) (omega (arith, f .address)) refl (omega (arith, f .mapaddress)) refl)
+    sym (settings-first (fullSettings b) (omega (arith, f .address)) (omega arith) (omega (arith, f .mapaddress)) (omega (arith, f .low)))
 
 running-below : (b : Running) (s : Settings) (k : ℕ) → runningSettings b (settingsBelow s k) ≡ settingsBelow (runningSettings b s) k
 unfolding runningSettings settingsBelow overlayBelow mapBelow
 running-below b s k = refl
 
-false-true : {A : Type 0} → false ≡ true → A
-false-true e = absurd (let z : _≡_ {A = ℕ} 0 1 = cc in omega arith)
-
 -- an item keeps the field's height, or brings its own
 enter-tall : (it : Item) (l : Latest) → soundItem it ≡ true → (isFull it ≡ true) ⊎ Tall l → Tall (enter it l)
 unfolding fullSettings runningSettings
 enter-tall (full b) l s t = full-fits b s .low
-enter-tall (running b) l s t = ⊎-elim (λ (e : false ≡ true). false-true e) (λ h. h) t
+enter-tall (running b) l s t = ⊎-elim (λ (e : false ≡ true). true-false (sym e)) (λ h. h) t
 
 module _ (mem : List ℕ) where
   -- a reader at the begin of a record or past the last, and one that repeats a record's settings
@@ -72,14 +71,14 @@ module _ (mem : List ℕ) where
 
   -- 1. The lines that are repeated.
   module _ (e : Latest) (tall : Tall e) (p : ℕ) (last : Bool) where
-    fetch-held : (r d : ℕ) → fetching mem (held e (suc r) p d last) ≡ held e r p d last
-    unfolding fetching
+    fetch-held : (r d : ℕ) → fetched mem (held e (suc r) p d last) ≡ held e r p d last
+    unfolding fetched
     fetch-held r d = simp (lt-ltb 0 (suc r) (omega arith)) (ap (λ (x : ℕ). held e x p d last) (omega arith))
 
     turn : (r d k : ℕ) → seen mem (held e (suc r) p d last) (suc k) ≡ seen mem (held e r p (d + 1) last) k
     unfolding seen
     turn r d k =
-        ap (λ (f : Reader). seen mem (further f) k) (fetch-held r d)
+        ap (λ (f : Reader). seen mem (advancedReader f) k) (fetch-held r d)
         ∙ ap (λ (x : Settings). seen mem (record { settings = x; position = p; repeat = r; ended = last }) k) (advance e d tall)
 
     held-in : (r d k : ℕ) → k < r → seen mem (held e r p d last) k ≡ settingsAt e (d + k)
@@ -107,14 +106,14 @@ module _ (mem : List ℕ) where
   fetch-item :
       (it : Item) (more : List Item) (l : Latest) (set : Settings) (p : ℕ) (last : Bool) → soundItem it ≡ true → Ready (it ∷ more) l set
       → Holds mem p (recordBytes it last)
-      → fetching mem (at-item set p false) ≡ held (enter it l) (linesOf it - 1) ((p + recordSize it) % 524288) 0 last
-  unfolding fetching
+      → fetched mem (at-item set p false) ≡ held (enter it l) (linesOf it - 1) ((p + recordSize it) % 524288) 0 last
+  unfolding fetched
   fetch-item (full b) more l set p last s r h =
       read-full mem (at-item set p false) b last s h
       ∙ ap (λ (x : Settings). record { settings = x; position = (p + 22) % 524288; repeat = b .lines - 1; ended = last }) (full-first b s)
   fetch-item (running b) more l set p last s r h =
       ⊎-elim
-      (λ (e : false ≡ true). false-true e)
+      (λ (e : false ≡ true). true-false (sym e))
       (λ e.
       read-running mem (at-item set p false) b last s h
       ∙ ap (λ (x : Settings). record { settings = x; position = (p + 8) % 524288; repeat = b .lines - 1; ended = last })
@@ -130,11 +129,11 @@ module _ (mem : List ℕ) where
       let one : linesOf it ≡ suc (linesOf it - 1) = omega (arith, some-line it s) in
       same-fetch mem _ _
       (fetch-item it more l set p last s r h
-      ∙ sym (ap (λ (n : ℕ). fetching mem (held (enter it l) n p′ 0 last)) one ∙ fetch-held (enter it l) tall p′ last (linesOf it - 1) 0))
+      ∙ sym (ap (λ (n : ℕ). fetched mem (held (enter it l) n p′ 0 last)) one ∙ fetch-held (enter it l) tall p′ last (linesOf it - 1) 0))
 
   -- 3. After the list.
   after-end : (set : Settings) (p k : ℕ) → seen mem (at-item set p true) k ≡ off set
-  unfolding seen fetching
+  unfolding seen fetched
   after-end set p zero = refl
   after-end set p (suc k) = ap (λ (s : Settings). seen mem (at-item s p true) k) (advanced-off set) ∙ (after-end (off set) p k ∙ off-off set)
 

@@ -26,11 +26,13 @@ unfolding frameOf
 returns c =
     λ i.
     record {
-      settings = c .before .before .before .before .before .settings-of .ensures i;
-      position = c .before .before .before .before .word .ensures i;
-      repeat = c .before .before .before .byte .ensures i;
-      line = c .before .before .half .ensures i;
-      ended = c .before .switch .ensures i;
+      reader = record {
+        settings = c .before .before .before .before .before .settings-of .ensures i;
+        position = c .before .before .before .before .word .ensures i;
+        repeat = c .before .before .before .byte .ensures i;
+        ended = c .before .before .switch .ensures i;
+      };
+      line = c .before .half .ensures i;
       on = c .switch2 .ensures i;
     }
 
@@ -41,7 +43,7 @@ frame-of-spec =
     settings-of-requires
     word-requires
     byte-requires
-    half-requires
     switch-requires
+    half-requires
     switch-requires-2
     returns)

@@ -3,22 +3,21 @@ use borrow.Author.Tests.{lt-leb}
 use Rattle.laws.proofs.Choice.{bool-byte}
 use Rattle.words.proofs.Laid.{laid-on}
 use Rattle.framewords.specs.Frame.{settingsWords, placeWords, frameWords}
-use mir.Facts.{fits-widen}
 use borrow.Author.Needs.{needs}
 use Rattle.framewords.proofs.put_frame.Statement.{statement}
 use Rattle.framewords.proofs.put_frame.Tie as tie
 
-cast-t4 : tie.Need-cast-t4
-cast-t4 c = fits-widen tt (c .struct-known .given .1 .1 .0)
-
 cast-t5 : tie.Need-cast-t5
-cast-t5 c = fits-widen tt (c .struct-known2 .given .1 .1 .1 .0)
+cast-t5 c = search needs
 
 cast-t6 : tie.Need-cast-t6
 cast-t6 c = search needs
 
 cast-t7 : tie.Need-cast-t7
 cast-t7 c = search needs
+
+cast-t8 : tie.Need-cast-t8
+cast-t8 c = search needs
 
 returns : tie.Need-returns
 unfolding frameWords settingsWords
@@ -49,18 +48,19 @@ returns-2 : tie.Need-returns-2
 unfolding frameWords settingsWords
 returns-2 c =
     let p = c .before .before .before .before .before .before .before in
-    let a = p .before .before .before .before .before .before .before .before .args in
+    let one = p .before .before in
+    let a = one .before .before .before .before .before .before .before .args in
     let f = a .frame in
-    laid-on (settingsWords (f .settings)) (placeWords f) (a .words .now) _ _ (p .before .before .if1 .left) (p .put-settings .ensures) (simp bool-byte at (c .before .before .lay .ensures))
+    laid-on (settingsWords (f .reader .settings)) (placeWords f) (a .words .now) _ _ (one .if1 .left) (p .put-settings .ensures) (simp bool-byte at (c .before .before .lay .ensures))
 
 pub put-frame-spec : {M : Type 1} → statement M
 put-frame-spec =
     tie.close
     (tie.spec
-    cast-t4
     cast-t5
     cast-t6
     cast-t7
+    cast-t8
     returns
     put-settings-requires
     sub-lay

@@ -10,16 +10,31 @@ good-length-requires : tie.Need-good-length-requires
 good-length-requires c κs = search needs
 
 returns : tie.Need-returns
-returns c = let n = line-board (c .before .before .before .args .mem .now) (c .before .before .before .args .self) (sym (c .before .good-length .ensures) ∙ not-true _ (c .if1 .taken)) in (sym (n .0), sym (n .1))
+returns c =
+    let a = c .before .before .before .args in
+    let n = line-board (a .mem .now) (a .self) (sym (c .before .good-length .ensures) ∙ not-true _ (c .if1 .taken)) in
+    (sym (n .0), sym (n .1))
 
 sound-requires : tie.Need-sound-requires
 sound-requires c κs = search needs
 
 returns-2 : tie.Need-returns-2
-returns-2 c = let n = line-state (c .before .before .before .before .before .args .mem .now) (c .before .before .before .before .before .args .self) (sym (c .before .before .before .good-length .ensures) ∙ not-false _ (c .before .before .if1 .left)) (sym (c .before .sound .ensures) ∙ not-true _ (c .if2 .taken)) in (sym (n .0), sym (n .1))
+returns-2 c =
+    let one = c .before .before in
+    let a = one .before .before .before .args in
+    let good = sym (one .before .good-length .ensures) ∙ not-false _ (one .if1 .left) in
+    let n = line-state (a .mem .now) (a .self) good (sym (c .before .sound .ensures) ∙ not-true _ (c .if2 .taken)) in
+    (sym (n .0), sym (n .1))
 
 returns-3 : tie.Need-returns-3
-returns-3 c = let n = line-over (c .before .before .before .before .before .before .before .args .mem .now) (c .before .before .before .before .before .before .before .args .self) (sym (c .before .before .before .before .before .good-length .ensures) ∙ not-false _ (c .before .before .before .before .if1 .left)) (sym (c .before .before .before .sound .ensures) ∙ not-false _ (c .before .before .if2 .left)) (c .if3 .taken) in (sym (n .0), sym (n .1))
+returns-3 c =
+    let two = c .before .before in
+    let one = two .before .before in
+    let a = one .before .before .before .args in
+    let good = sym (one .before .good-length .ensures) ∙ not-false _ (one .if1 .left) in
+    let sound = sym (two .before .sound .ensures) ∙ not-false _ (two .if2 .left) in
+    let n = line-over (a .mem .now) (a .self) good sound (c .if3 .taken) in
+    (sym (n .0), sym (n .1))
 
 add-line : tie.Need-add-line
 add-line c = search needs
@@ -31,13 +46,29 @@ advance-requires : tie.Need-advance-requires
 advance-requires c κs = search needs
 
 returns-4 : tie.Need-returns-4
-returns-4 c = line-on (c .before .before .before .before .before .before .before .before .before .before .before .before .args .mem .now) (c .before .before .before .before .before .before .before .before .before .before .before .before .args .self) (sym (c .before .before .before .before .before .before .before .before .before .before .good-length .ensures) ∙ not-false _ (c .before .before .before .before .before .before .before .before .before .if1 .left)) (sym (c .before .before .before .before .before .before .before .before .sound .ensures) ∙ not-false _ (c .before .before .before .before .before .before .before .if2 .left)) (c .before .before .before .before .before .if3 .left) (c .before .before .before .if4 .taken) _ _ (c .before .before .fetch .ensures) (c .advance .ensures)
+returns-4 c =
+    let four = c .before .before .before in
+    let three = four .before .before in
+    let two = three .before .before in
+    let one = two .before .before in
+    let a = one .before .before .before .args in
+    let good = sym (one .before .good-length .ensures) ∙ not-false _ (one .if1 .left) in
+    let sound = sym (two .before .sound .ensures) ∙ not-false _ (two .if2 .left) in
+    line-on (a .mem .now) (a .self) good sound (three .if3 .left) (four .if4 .taken) _ _ (c .before .before .fetch .ensures) (c .advance .ensures)
 
 new-requires : tie.Need-new-requires
 new-requires c κs = search needs
 
 returns-5 : tie.Need-returns-5
-returns-5 c = line-off (c .before .before .before .before .before .before .before .before .before .before .args .mem .now) (c .before .before .before .before .before .before .before .before .before .before .args .self) (sym (c .before .before .before .before .before .before .before .before .good-length .ensures) ∙ not-false _ (c .before .before .before .before .before .before .before .if1 .left)) (sym (c .before .before .before .before .before .before .sound .ensures) ∙ not-false _ (c .before .before .before .before .before .if2 .left)) (c .before .before .before .if3 .left) (c .before .if4 .left) _ (c .new .ensures)
+returns-5 c =
+    let four = c .before in
+    let three = four .before .before in
+    let two = three .before .before in
+    let one = two .before .before in
+    let a = one .before .before .before .args in
+    let good = sym (one .before .good-length .ensures) ∙ not-false _ (one .if1 .left) in
+    let sound = sym (two .before .sound .ensures) ∙ not-false _ (two .if2 .left) in
+    line-off (a .mem .now) (a .self) good sound (three .if3 .left) (four .if4 .left) _ (c .new .ensures)
 
 pub next-line-spec : {M : Type 1} → statement M
 next-line-spec =

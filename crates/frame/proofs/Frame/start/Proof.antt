@@ -16,7 +16,10 @@ new-requires : tie.Need-new-requires
 new-requires c κs = search needs
 
 returns-2 : tie.Need-returns-2
-returns-2 c = start-given (c .before .before .before .before .before .args .board) _ (sym (c .before .before .before .before .sound .ensures) ∙ not-false _ (c .before .before .before .if1 .left)) (c .before .new .ensures)
+returns-2 c =
+    let one = c .before .before .before in
+    let sound = sym (one .before .sound .ensures) ∙ not-false _ (one .if1 .left) in
+    start-given (one .before .before .args .board) _ sound (c .before .new .ensures)
 
 pub start-spec : {M : Type 1} → statement M
 start-spec = tie.close (tie.spec sound-requires returns new-requires returns-2)

@@ -1,7 +1,7 @@
--- `frame::Frame::advance` meets its contract: the settings advance as they promise. Assumes nothing.
+-- `frame::advance` meets its contract: the settings advance as they promise. Assumes nothing.
 use borrow.Author.Needs.{needs}
-use Rattle.frame.proofs.Frame.advance.Statement.{statement}
-use Rattle.frame.proofs.Frame.advance.Tie as tie
+use Rattle.frame.proofs.advance.Statement.{statement}
+use Rattle.frame.proofs.advance.Tie as tie
 
 advance-requires : tie.Need-advance-requires
 advance-requires c κs = search needs
