@@ -1,11 +1,11 @@
 -- The contract of a run admits one outcome only. Assumes nothing.
-use mathlib.Core.Path.{_≡_, refl, sym, ap, _∙_}
+use mathlib.Core.Path.{_≡_, sym, ap, _∙_}
 use Prim.Native.Nat.{ℕ}
 use native.Mathlib.Omega.{arith}
 use denote.Ref.{now}
 use Rattle.laws.proofs.Once.{OneAnswer, OneExit}
 use Rattle.refusal.proofs.Sheet.{number-one}
-use Rattle.refusal.specs.Sheet.{Told, done, refused, numberOf}
+use Rattle.refusal.specs.Sheet.{Told, done, refused}
 use Rattle.engine.specs.Run.{Counts, runTold}
 use Rattle.engine.specs.declared.RunReport.{RunReport}
 use Rattle.engine.specs.declared.RunReport.the-variants.{Ran, Refused}

@@ -1,8 +1,8 @@
 -- Strokes one after the other: the last one apart, counted from any number, and what they leave as it was. Assumes nothing.
-use mathlib.Core.Path.{_≡_, refl, sym, ap, _∙_}
+use mathlib.Core.Path.{_≡_, refl, ap, _∙_}
 use mathlib.Core.Bool.{cond}
 use mathlib.Core.List.{List}
-use Prim.Native.Nat.{ℕ, zero, suc, _+_, _*_, _%_, _≤_, _<_}
+use Prim.Native.Nat.{ℕ, zero, suc, _+_, _*_, _%_, _≤_}
 use native.Mathlib.Nat.{zero-mul, suc-mul, add-zero, add-assoc, mod-mod}
 use native.Mathlib.Omega.{arith}
 use lib.Bits.{bitAnd, bitXor}

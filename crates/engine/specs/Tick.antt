@@ -1,5 +1,5 @@
 -- Document 01, "The blitter": a tick. What it makes of the state, of memory, and how many accesses it counts are three definitions.
-use mathlib.Core.Bool.{Bool, true, false, cond}
+use mathlib.Core.Bool.{true, cond}
 use mathlib.Core.List.{List}
 use Prim.Native.Nat.{ℕ, _+_, _%_}
 use lib.Dec.{eqb, ltb}

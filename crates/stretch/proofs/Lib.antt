@@ -1,6 +1,7 @@
 -- Laws of a stretch of bytes.
 mod Strokes
 mod Single
+mod Walking
 mod Places
 mod Levels
 mod Painting

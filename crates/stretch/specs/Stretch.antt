@@ -1,4 +1,5 @@
 -- What a stretch of bytes makes of memory, the collision code and the count of accesses: each byte by the address of its source and its own.
+use mathlib.Core.Path.{_≡_}
 use mathlib.Core.Bool.{cond}
 use mathlib.Core.List.{List}
 use Prim.Native.Nat.{ℕ, zero, suc, _+_}
@@ -11,6 +12,7 @@ use Rattle.block.specs.Block.{modeOf}
 use Rattle.block.specs.Byte.{readsSource}
 use Rattle.block.specs.declared.Block.{Block}
 use Rattle.stretch.specs.declared.Stretch.{Stretch}
+use Rattle.stretch.specs.declared.Drawn.{Drawn}
 
 -- one destination byte, from the address of its source and its own
 unfoldable pub strokeBy : Block → List ℕ → ℕ → ℕ → ℕ → Stroke
@@ -44,6 +46,11 @@ struck b from to d =
 unfoldable pub strokes : Block → ℕ → ℕ → ℕ → ℕ → ℕ → Trace → Trace
 strokes b along step zero from to d = d
 strokes b along step (suc n) from to d = strokes b along step n (from + along) (to + step) (struck b from to d)
+
+-- a loop has drawn a stretch: from one memory and code to another memory, with the code and the accesses that all its bytes leave
+abbrev pub Draws : Block → Stretch → List ℕ → ℕ → List ℕ → Drawn → Type 0
+Draws b s mem code mem′ drawn =
+    trace mem′ (drawn .code) (drawn .accesses) ≡ strokes b (s .along) (s .step) (s .count) (s .from) (s .to) (trace mem code 0)
 
 -- a whole stretch; in a memory of no board's length nothing is done
 unfoldable pub traceOf : Block → Stretch → List ℕ → ℕ → Trace

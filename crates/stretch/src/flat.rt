@@ -9,7 +9,7 @@ ghost use lib.ListN.{length};
 ghost use Rattle.vram.specs.Memory.{goodLength, place};
 ghost use Rattle.mode.specs.Mode.{valueIn, writesIn};
 ghost use Rattle.block.specs.Block.{modeOf};
-ghost use Rattle.stretch.specs.Stretch.{trace, strokes, traceOf};
+ghost use Rattle.stretch.specs.Stretch.{Draws, trace, traceOf};
 ghost use Rattle.stretch.specs.Flat.{levelOf, untilEnd, beforeWrap, flatCount, firstOf, Flat, Makes, painted};
 use crate::Drawn;
 use crate::Stretch;
@@ -140,7 +140,7 @@ fn apart(place: usize, at: usize, count: u16) -> bool
 // Mode 0: a fill, a copy, or one byte copied many times. Where that byte is written on the way it is read each time.
 fn mode_0(block: Block, mem: &mut [u8], stretch: Stretch, from: usize, at: usize, code: u8) -> Drawn
     requires { ⌜ (goodLength (length (now mem)) ≡ true) × (modeOf block ≡ 0) × Flat (length (now mem)) block stretch × (at ≡ place (length (now mem)) (stretch .to)) × ((block .andmask ≡ 0 → ⊥) → from ≡ place (length (now mem)) (stretch .from)) ⌝ }
-    ensures { λ r. ⌜ trace (now (mem .exit)) (r .code) (r .accesses) ≡ strokes block (stretch .along) (stretch .step) (stretch .count) (stretch .from) (stretch .to) (trace (now (mem .entry)) code 0) ⌝ }
+    ensures { λ r. ⌜ Draws block stretch (now (mem .entry)) code (now (mem .exit)) r ⌝ }
 {
     let count = stretch.count;
     if block.andmask == 0 {

@@ -6,7 +6,7 @@ ghost use lib.ListN.{length, set};
 ghost use Rattle.vram.specs.Memory.{goodLength, place, cellAt};
 ghost use Rattle.block.specs.Block.{modeOf};
 ghost use Rattle.block.specs.Byte.{readsSource};
-ghost use Rattle.stretch.specs.Stretch.{trace, strokes, traceOf};
+ghost use Rattle.stretch.specs.Stretch.{Draws, trace, traceOf};
 
 pub mod flat;
 
@@ -81,7 +81,7 @@ fn settle(block: Block, mem: &mut [u8], to: usize, stroke: Stroke) -> Struck
 // Mode 0 with an AND mask of 0: every byte is the XOR mask.
 fn fill(block: Block, mem: &mut [u8], stretch: Stretch, code: u8) -> Drawn
     requires { ⌜ (goodLength (length (now mem)) ≡ true) × (modeOf block ≡ 0) × (block .andmask ≡ 0) ⌝ }
-    ensures { λ r. ⌜ trace (now (mem .exit)) (r .code) (r .accesses) ≡ strokes block (stretch .along) (stretch .step) (stretch .count) (stretch .from) (stretch .to) (trace (now (mem .entry)) code 0) ⌝ }
+    ensures { λ r. ⌜ Draws block stretch (now (mem .entry)) code (now (mem .exit)) r ⌝ }
 {
     let step = stretch.step as usize;
     let count = stretch.count as u32;
@@ -103,7 +103,7 @@ fn fill(block: Block, mem: &mut [u8], stretch: Stretch, code: u8) -> Drawn
 // Mode 0: the source is copied.
 fn copy(block: Block, mem: &mut [u8], stretch: Stretch, code: u8) -> Drawn
     requires { ⌜ (goodLength (length (now mem)) ≡ true) × (modeOf block ≡ 0) × (block .andmask ≡ 0 → ⊥) ⌝ }
-    ensures { λ r. ⌜ trace (now (mem .exit)) (r .code) (r .accesses) ≡ strokes block (stretch .along) (stretch .step) (stretch .count) (stretch .from) (stretch .to) (trace (now (mem .entry)) code 0) ⌝ }
+    ensures { λ r. ⌜ Draws block stretch (now (mem .entry)) code (now (mem .exit)) r ⌝ }
 {
     let along = stretch.along as usize;
     let step = stretch.step as usize;
@@ -129,7 +129,7 @@ fn copy(block: Block, mem: &mut [u8], stretch: Stretch, code: u8) -> Drawn
 // Mode 6. The mode is a constant here, so that the compiler leaves the others out.
 fn nibbles(block: Block, mem: &mut [u8], stretch: Stretch, mut code: u8) -> Drawn
     requires { ⌜ (goodLength (length (now mem)) ≡ true) × (modeOf block ≡ 6) ⌝ }
-    ensures { λ r. ⌜ trace (now (mem .exit)) (r .code) (r .accesses) ≡ strokes block (stretch .along) (stretch .step) (stretch .count) (stretch .from) (stretch .to) (trace (now (mem .entry)) code 0) ⌝ }
+    ensures { λ r. ⌜ Draws block stretch (now (mem .entry)) code (now (mem .exit)) r ⌝ }
 {
     let along = stretch.along as usize;
     let step = stretch.step as usize;
@@ -157,7 +157,7 @@ fn nibbles(block: Block, mem: &mut [u8], stretch: Stretch, mut code: u8) -> Draw
 // The modes that read the source unless the AND mask is 0: every one but 7. Modes 1 to 5 come here.
 fn blend(block: Block, mem: &mut [u8], stretch: Stretch, mut code: u8) -> Drawn
     requires { ⌜ (goodLength (length (now mem)) ≡ true) × (modeOf block ≡ 7 → ⊥) ⌝ }
-    ensures { λ r. ⌜ trace (now (mem .exit)) (r .code) (r .accesses) ≡ strokes block (stretch .along) (stretch .step) (stretch .count) (stretch .from) (stretch .to) (trace (now (mem .entry)) code 0) ⌝ }
+    ensures { λ r. ⌜ Draws block stretch (now (mem .entry)) code (now (mem .exit)) r ⌝ }
 {
     let mode = block.mode();
     let along = stretch.along as usize;

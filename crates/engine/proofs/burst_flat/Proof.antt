@@ -6,7 +6,8 @@ use Rattle.block.proofs.Sizes.{columns-small, rows-small}
 use Rattle.stretch.specs.Stretch.{trace}
 use Rattle.engine.specs.Engine.{placeAt}
 use Rattle.engine.proofs.Reaching.{reach-small}
-use Rattle.engine.proofs.FlatBursts.{Turned, AtOnce, turned-start, turned-room, turned-going, turned-left, at-once, once-some, once-reach, once-room, once-accesses, once-turned}
+use Rattle.engine.proofs.Bursts.{Stretched, placed-in, stretch-made, stretch-done}
+use Rattle.engine.proofs.FlatBursts.{Turned, turned-start, turned-room, turned-going, turned-left, turned-on, at-once}
 use Rattle.engine.proofs.burst_flat.Statement.{statement}
 use Rattle.engine.proofs.burst_flat.Tie as tie
 
@@ -24,19 +25,28 @@ height-in a = omega arith
 width-in : (a : tie.Start Inv-loop μ-loop) → a .args .blitter .block .width0 < 256
 width-in a = omega arith
 
--- the stretch that this turn draws
-once :
-    (c : tie.After-draw Inv-loop μ-loop)
-    → let l = c .before .before .before .before .before .before .before .loop in
-    let a = c .before .before .before .before .before .before .before .before .before .before .before .before .args in
-    let r = c .draw .result in
-    AtOnce (a .blitter) (a .mem .now) (a .ticks) (a .accesses) (a .budget) (l .mem) (l .place .row) (l .place .col) (l .code) (l .done) (l .made) (c .before .before .before .least .result) (r .count) (trace (c .draw .last .1 .0) (r .code) (r .accesses))
-once c =
-    let d = c .draw .ensures in
-    let bytes = c .before .before .stretch .ensures in
-    let rows = c .before .before .before .before .before .before .before .before .before .rows .ensures in
-    let level = c .before .before .before .before .before .before .before .before .before .before .before .before .pre .1 in
-    at-once (c .before .before .before .before .before .before .before .loop .inv .0) rows (c .before .before .before .before .before .if1 .taken) level (c .before .before .before .before .reach .ensures .1) (c .before .before .before .least .ensures) bytes (d .0) (d .1)
+-- where a stretch is drawn, and the places before it
+abbrev Drew : Type 0
+Drew = tie.After-draw Inv-loop μ-loop
+
+abbrev at-loop : Drew → tie.At-loop Inv-loop μ-loop
+at-loop c = c .before .before .before .before .before .before .before
+
+abbrev entry : Drew → tie.Start Inv-loop μ-loop
+entry c = c .before .before .before .before .before .before .before .before .before .before .before .before
+
+-- what that turn of the loop draws
+turn :
+    (c : Drew)
+    → let a = entry c .args in
+    let l = at-loop c .loop in
+    let drawn = c .draw in
+    Stretched (a .blitter) (a .mem .now) (a .ticks) (a .accesses) (a .budget) (l .mem) (l .place .row) (l .place .col) (l .code) (l .done) (l .made)
+    (drawn .result .count) (trace (drawn .last .1 .0) (drawn .result .code) (drawn .result .accesses))
+turn c =
+    let drawn = c .draw .ensures in
+    at-once (at-loop c .loop .inv .0) (c .before .before .before .before .before .before .before .before .before .rows .ensures) (c .before .before .before .before .before .if1 .taken) (entry c .pre .1)
+    (c .before .before .before .before .reach .ensures .1) (c .before .before .before .least .ensures) (c .before .before .stretch .ensures) (drawn .0) (drawn .1)
 
 rows-requires : tie.Need-rows-requires Inv-loop μ-loop
 rows-requires c κs = tt
@@ -53,8 +63,7 @@ loop-holds c = rw (c .place-of .ensures) (turned-start (c .before .before .befor
 reach-requires : tie.Need-reach-requires Inv-loop μ-loop
 reach-requires c κs =
     let inv = c .before .before .loop .inv in
-    let g = turned-going (inv .0) (c .before .before .before .before .rows .ensures) (c .if1 .taken) in
-    record { at = inv .1; row-in = g .place .row-in; col-in = g .place .col-in }
+    placed-in (turned-going (inv .0) (c .before .before .before .before .rows .ensures) (c .if1 .taken)) (inv .1)
 
 sub-least : tie.Need-sub-least Inv-loop μ-loop
 sub-least c = omega (arith, turned-room (c .before .before .before .loop .inv .0) (c .before .before .before .before .before .rows .ensures) (c .before .if1 .taken))
@@ -67,33 +76,27 @@ stretch-requires c κs =
     let start = c .before .before .before .before .before .before .before .before .before in
     let inv = c .before .before .before .before .loop .inv in
     let g = turned-going (inv .0) (c .before .before .before .before .before .before .rows .ensures) (c .before .before .if1 .taken) in
-    (record { at = inv .1; row-in = g .place .row-in; col-in = g .place .col-in }, omega (arith, c .least .ensures .1, reach-small _ _ _ _ (height-in start) (width-in start) (c .before .reach .ensures .1)))
+    (placed-in g (inv .1), omega (arith, c .least .ensures .1, reach-small _ _ _ _ (height-in start) (width-in start) (c .before .reach .ensures .1)))
 
 draw-requires : tie.Need-draw-requires Inv-loop μ-loop
 draw-requires c κs = tt
 
 add-made : tie.Need-add-made Inv-loop μ-loop
-add-made c =
-    let o = once (c .before .before .before) in
-    record { fits = omega (arith, o .going .counted, o .going .from .small, once-room o, once-accesses o) }
+add-made c = stretch-made (turn (c .before .before .before))
 
 add-done : tie.Need-add-done Inv-loop μ-loop
-add-done c =
-    let o = once (c .before .before .before .before) in
-    record { fits = omega (arith, o .going .from .small, once-room o) }
+add-done c = stretch-done (turn (c .before .before .before .before))
 
 after-requires : tie.Need-after-requires Inv-loop μ-loop
 after-requires c κs =
-    let o = once (c .before .before .before .before) in
-    (record { at = c .before .before .before .before .before .before .before .before .before .before .before .loop .inv .1; row-in = o .going .place .row-in; col-in = o .going .place .col-in }, once-some o, once-reach o)
+    let s = turn (c .before .before .before .before) in
+    (placed-in (s .going) (c .before .before .before .before .before .before .before .before .before .before .before .loop .inv .1), s .some, s .reach)
 
 loop-less : tie.Need-loop-less Inv-loop μ-loop
-loop-less c =
-    let o = once (c .before .before .before .before .before) in
-    omega (arith, once-some o, once-room o)
+loop-less c = omega (arith, turn (c .before .before .before .before .before) .some, turn (c .before .before .before .before .before) .room)
 
 loop-again : tie.Need-loop-again Inv-loop μ-loop
-loop-again c = rw (c .after .ensures) (once-turned (once (c .before .before .before .before .before)), refl)
+loop-again c = rw (c .after .ensures) (turned-on (turn (c .before .before .before .before .before)), refl)
 
 leave-requires : tie.Need-leave-requires Inv-loop μ-loop
 leave-requires c κs =
