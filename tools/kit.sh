@@ -66,7 +66,10 @@ build_once() { # WHAT NAME FILE WORDS..
     log=$room/$what.log
     (
         # one build at a time, since all write to target/; another may have done the work while this one waited
-        if command -v flock >/dev/null; then exec 8>"$room/lock" && flock 8; fi
+        if command -v flock >/dev/null; then
+            exec 8>"$room/lock"
+            flock -n 8 || { say "waits for another build in this folder" && flock 8; }
+        fi
         fresh "$what" "$name" "$file" && exit 0
         left=0
         for part in $(parts_of "$name"); do [ -f "$top/target/stamp/$part" ] || left=$((left + 1)); done
