@@ -10,6 +10,9 @@ Inv-loop arguments i₀ i = Unit {0}
 abbrev μ-loop : tie.MeasureT-loop
 μ-loop arguments i₀ i = arguments - i
 
+usage-requires : tie.Need-usage-requires Inv-loop μ-loop
+usage-requires c κs = search needs
+
 loop-holds : tie.Need-loop-holds Inv-loop μ-loop
 loop-holds c = search needs
 
@@ -31,4 +34,4 @@ returns c = search needs
 pub bands-spec : {M : Type 1} → statement M
 bands-spec =
     tie.close
-    (tie.spec Inv-loop μ-loop loop-holds file-requires add-i loop-less loop-again returns)
+    (tie.spec Inv-loop μ-loop usage-requires loop-holds file-requires add-i loop-less loop-again returns)
