@@ -72,9 +72,14 @@ pub fn ran(name: &[u8], board: Board, mem: &mut [u8], budget: u32) -> Board {
     after
 }
 
+// The first run of the list at 0.
+pub fn first(name: &[u8], mem: &mut [u8], budget: u32) -> Board {
+    ran(name, started(0, 0, 0), mem, budget)
+}
+
 // A list of one block at 0, run to its end, and the eight cells from an address on.
 pub fn single(name: &[u8], mem: &mut [u8], block: Block, at: u32) {
     lay(mem, 0, block);
-    ran(name, started(0, 0, 0), mem, 100);
+    first(name, mem, 100);
     show::cells(mem, at);
 }

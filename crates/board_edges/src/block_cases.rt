@@ -48,15 +48,20 @@ fn before(mem: &mut [u8]) {
     hits(b"32 XOR 1", mem, 0x17, 32, 1, 2, 5);
 }
 
-// Nibbles collide apart, and the other nibble of the code stays.
-fn nibbles(mem: &mut [u8]) {
+// 55h in mode 6, on 90h and then on 0Ah.
+fn two_nibbles(mem: &mut [u8]) {
     vram::install(mem, b"\x90\x0A", 0x1800);
     let mut two = blitlist::fill(0x18, 0x55);
     two.width0 = 1;
     two.hitmask = 0x30;
     two.control = 6;
     blitlist::lay(mem, 0, two);
-    let first = blitlist::ran(b"nibbles 55 on 90", blitlist::started(0, 0, 0), mem, 2);
+}
+
+// Nibbles collide apart, and the other nibble of the code stays.
+fn nibbles(mem: &mut [u8]) {
+    two_nibbles(mem);
+    let first = blitlist::first(b"nibbles 55 on 90", mem, 2);
     blitlist::ran(b"nibbles 55 on 0A", first, mem, 1);
     show::cells(mem, 0x1800);
 }

@@ -17,7 +17,7 @@ fn two_fills(mem: &mut [u8]) {
 
 // Three runs, one tick short of them.
 fn short(mem: &mut [u8]) -> Board {
-    let ten = blitlist::ran(b"39 ticks, run of 10", blitlist::started(0, 0, 0), mem, 10);
+    let ten = blitlist::first(b"39 ticks, run of 10", mem, 10);
     let thirty = blitlist::ran(b"39 ticks, run of 20", ten, mem, 20);
     blitlist::ran(b"39 ticks, run of 8", thirty, mem, 8)
 }

@@ -17,7 +17,7 @@ fn go(name: &[u8], board: Board, mem: &mut [u8], budget: u32) {
 
 // A run of the list at 0.
 fn list(name: &[u8], mem: &mut [u8], budget: u32) {
-    go(name, blitlist::started(0, 0, 0), mem, budget);
+    blitlist::first(name, mem, budget);
 }
 
 // Copy and fill of 4 bytes.
@@ -33,7 +33,7 @@ fn copies(mem: &mut [u8]) {
 
 // The fill again: one tick short of the end, the last tick, and idle.
 fn ends(mem: &mut [u8]) {
-    let short = blitlist::ran(b"one tick short", blitlist::started(0, 0, 0), mem, 4);
+    let short = blitlist::first(b"one tick short", mem, 4);
     let end = blitlist::ran(b"the last tick", short, mem, 1);
     go(b"idle", end, mem, 10);
 }
@@ -147,7 +147,7 @@ fn long_list(mem: &mut [u8]) {
 }
 
 fn in_pieces(mem: &mut [u8]) {
-    let first = blitlist::ran(b"1 tick", blitlist::started(0, 0, 0), mem, 1);
+    let first = blitlist::first(b"1 tick", mem, 1);
     let second = blitlist::ran(b"50 ticks", first, mem, 50);
     go(b"the rest", second, mem, 95);
 }

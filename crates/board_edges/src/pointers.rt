@@ -19,7 +19,7 @@ fn prepare(mem: &mut [u8], cells: &[u8], block: Block) {
 
 // Drawn to the end twice, on one board.
 fn draw_twice(name: &[u8], mem: &mut [u8], at: u32) {
-    let board = blitlist::ran(name, blitlist::started(0, 0, 0), mem, 100);
+    let board = blitlist::first(name, mem, 100);
     show::cells(mem, at);
     blitlist::ran(b"again", board.write(0x53, 1).board, mem, 100);
     show::cells(mem, at);
@@ -54,19 +54,14 @@ fn repeated() -> Block {
 
 // The list at 0 in three runs of one tick.
 fn in_three_runs(mem: &mut [u8]) {
-    let load = blitlist::ran(b"again, the load", blitlist::started(0, 0, 0), mem, 1);
+    let load = blitlist::first(b"again, the load", mem, 1);
     let byte = blitlist::ran(b"again, a byte", load, mem, 1);
     blitlist::ran(b"again, the last byte", byte, mem, 1);
 }
 
 // In one run, and then in three.
 fn in_one_and_three(mem: &mut [u8]) {
-    blitlist::ran(
-        b"two bytes on one cell",
-        blitlist::started(0, 0, 0),
-        mem,
-        100,
-    );
+    blitlist::first(b"two bytes on one cell", mem, 100);
     show::cells(mem, 0x2100);
     in_three_runs(mem);
     show::cells(mem, 0x2100);

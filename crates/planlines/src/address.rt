@@ -16,7 +16,10 @@ fn digit(c: u8) -> u32 {
 // An address with a digit behind it.
 fn with_digit(address: u32, c: u8, hex: bool) -> u32 {
     let d = digit(c);
-    if (NONE <= address) | (16 <= d) {
+    if NONE <= address {
+        return NONE;
+    }
+    if 16 <= d {
         return NONE;
     }
     if hex {

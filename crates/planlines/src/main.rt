@@ -56,6 +56,9 @@ fn file(i: usize, at: u32, bands: bool) {
 
 // Every plan that an argument behind --bands names.
 fn bands(arguments: usize) {
+    if arguments < 3 {
+        usage(2);
+    }
     for i in 2..arguments {
         file(i, TOP, true);
     }
@@ -102,6 +105,7 @@ fn lines_at(at: u32) {
     if at < address::NONE {
         file(1, at, false);
     } else {
+        io::write_all(2, b"ADDRESS is 0 to 524287, or 0x0 to 0x7FFFF\n");
         usage(2);
     }
 }

@@ -1,2 +1,3 @@
 -- Laws of the text.
 mod Line
+mod Once

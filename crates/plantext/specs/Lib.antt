@@ -1,2 +1,3 @@
--- How bytes are printed.
+-- How bytes are printed, and how many.
 pub mod Hex
+pub mod Listed

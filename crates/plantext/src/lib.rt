@@ -6,7 +6,9 @@ ghost use mathlib.Core.List.{_++_};
 ghost use Prim.Native.Nat.{_*_, _≤_, _<_};
 ghost use lib.ListN.{length, drop};
 ghost use Rattle.io.specs.Counts.{Counts};
+ghost use Rattle.plan.specs.Compile.{compileAnswer, compileOutput};
 ghost use Rattle.plantext.specs.Hex.{digitOf, behindOf, hexOf, hexLine};
+ghost use Rattle.plantext.specs.Listed.{listSize};
 use plan::Compiled;
 
 // A hex digit in upper case.
@@ -82,6 +84,8 @@ fn print_records(list: &[u8]) {
 // goes to a file descriptor.
 pub fn compiled(plan: &[u8], list: &mut [u8], refusals: i32) -> usize
     ensures { λ r. ⌜ Counts r (now (list .exit)) ⌝ }
+    ensures bytes { λ r. ⌜ r ≡ listSize (compileAnswer (now (plan .entry)) (length (now (list .entry)))) ⌝ }
+    ensures list { λ _. ⌜ now (list .exit) ≡ compileOutput (now (plan .entry)) (now (list .entry)) ⌝ }
 {
     let r = plan::compile(plan, list);
     match r {

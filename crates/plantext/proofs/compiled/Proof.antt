@@ -7,6 +7,7 @@ use denote.Ref.{now}
 use Rattle.io.proofs.Counting.{counts}
 use Rattle.plan.proofs.Compiling.{accepted}
 use Rattle.plan.specs.Compile.{compileTold}
+use Rattle.plantext.specs.Listed.{listSize}
 use Rattle.plantext.proofs.compiled.Statement.{statement}
 use Rattle.plantext.proofs.compiled.Tie as tie
 
@@ -23,7 +24,10 @@ same-length : tie.Need-same-length
 same-length c = search needs
 
 returns : tie.Need-returns
-returns c = (zero-le, refl)
+returns c =
+    let told = c .before .before .before .before .before .before .compile in
+    let e = sym (told .ensures .0) ∙ ap compileTold (c .before .before .r .given .1) in
+    ((zero-le, refl), (sym (ap listSize e), told .ensures .1))
 
 enum-known-r-2 : tie.Need-enum-known-r-2
 enum-known-r-2 c = search needs
@@ -36,7 +40,8 @@ returns-2 c =
     let told = c .before .before .before .before .before .compile in
     let b = c .before .before .before .before .before .before .before .before .before .args in
     let bytes = c .before .r2 .given in
-    counts _ _ (omega (arith, accepted (now (b .plan)) (now (b .list)) (bytes .0 .0) (sym (told .ensures .0) ∙ ap compileTold (bytes .1)) .room, told .kept))
+    let e = sym (told .ensures .0) ∙ ap compileTold (bytes .1) in
+    (counts _ _ (omega (arith, accepted (now (b .plan)) (now (b .list)) (bytes .0 .0) e .room, told .kept)), (sym (ap listSize e), told .ensures .1))
 
 pub compiled-spec : {M : Type 1} → statement M
 compiled-spec =

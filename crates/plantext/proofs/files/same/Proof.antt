@@ -1,7 +1,6 @@
 -- `plantext::files::same` stays inside both words and ends. Assumes nothing.
 use mathlib.Core.Path.{_≡_}
 use Prim.Native.Nat.{_≤_, _-_}
-use native.Mathlib.Omega.{arith}
 use lib.ListN.{length}
 use borrow.Author.Needs.{needs}
 use Rattle.plantext.proofs.files.same.Statement.{statement}
