@@ -12,7 +12,7 @@ use Rattle.board.specs.declared.Board.{Board}
 use Rattle.record.specs.Parts.{withSettings, repeating}
 use Rattle.record.specs.Record.{recordOf}
 use Rattle.record.specs.declared.Reader.{Reader}
-use Rattle.refusal.specs.Sheet.{Told, done, refused, kept}
+use Rattle.refusal.specs.Sheet.{done, refused}
 use Rattle.settings.specs.Settings.{beginning, off}
 use Rattle.settings.specs.declared.Settings.{Settings}
 use Rattle.vram.specs.Memory.{goodLength}

@@ -10,13 +10,17 @@ use Rattle.settings.specs.declared.Settings.{Settings}
 use Rattle.settings.specs.declared.Overlay.{Overlay}
 use Rattle.settings.specs.declared.Map.{Map}
 use Rattle.vram.specs.Memory.{byteAt}
+use Rattle.record.specs.Parts.{readOn, repeating, endedBy}
 use Rattle.record.specs.Record.{overlayMode, mapSwitch, addressAt, stepAt, fieldWidth, lookAt, controlled, repeatGroup, addressGroup, scrollGroup, fontGroup, mapGroup, fieldGroup, lookGroup, restarted, recordBy, recordOf}
 use Rattle.record.specs.declared.Reader.{Reader}
 
--- a record that begins at p, while it is read: its settings, its repeat, and how many of its bytes are read
-module _ (mem : List ℕ) (p : ℕ) (ended : Bool) where
+-- a record that begins where r is, while it is read: its settings, its repeat, and how many of its bytes are read
+module _ (mem : List ℕ) (r : Reader) (ended : Bool) where
+  abbrev p : ℕ
+  p = r .position
+
   abbrev put : ℕ → ℕ → Settings → Reader
-  put n t s = record { settings = s; position = (p + n) % 524288; repeat = t; ended = ended }
+  put n t s = endedBy ended (repeating t (readOn n s r))
 
   -- a group that is announced, n bytes behind the record's begin; and one that is not
   module _ (v n t : ℕ) (s : Settings) where
@@ -99,9 +103,9 @@ module _ (mem : List ℕ) (r : Reader) (c d : ℕ) where
       let s = r .settings in
       withMap (switched (mapSwitch c (s .map .on)) (s .map)) (withOverlay (inMode (overlayMode c d (s .overlay .mode)) (s .overlay)) s)
 
-  repeated : bit c 5 ≡ true → repeatGroup mem c (controlled c d r) ≡ put mem at (bit d 7) 3 (byteAt mem at 2) switchedBy
+  repeated : bit c 5 ≡ true → repeatGroup mem c (controlled c d r) ≡ put mem r (bit d 7) 3 (byteAt mem at 2) switchedBy
   unfolding controlled
-  repeated h = repeat-read mem at (bit d 7) c 2 (r .repeat) _ h
+  repeated h = repeat-read mem r (bit d 7) c 2 (r .repeat) _ h
 
   -- the groups one after the other, by what each makes of the one before
   in-order :
@@ -128,18 +132,18 @@ module _ (mem : List ℕ) (r : Reader) (c d : ℕ) where
   pub full-record :
       Full c d
       → recordBy mem c d r
-      ≡ put mem at (bit d 7) 22 (byteAt mem at 2) (withLook (lookAt mem at 20) (withMap (fullMap (r .settings .map)) (withOverlay (fullOverlay (r .settings .overlay)) (r .settings))))
+      ≡ put mem r (bit d 7) 22 (byteAt mem at 2) (withLook (lookAt mem at 20) (withMap (fullMap (r .settings .map)) (withOverlay (fullOverlay (r .settings .overlay)) (r .settings))))
   unfolding restarted
   full-record f =
       let e = bit d 7 in
       in-order
       (repeated (f .rptl))
-      (address-read mem at e c 3 _ _ (f .ovadr))
-      (scroll-read mem at e c 8 _ _ (f .ovscrl))
-      (font-read mem at e d 10 _ _ (f .chbase))
-      (map-read mem at e d 11 _ _ (f .mapadr))
-      (field-read mem at e d 16 _ _ (f .mappar))
-      (look-read mem at e d 20 _ _ (f .ovatt))
+      (address-read mem r e c 3 _ _ (f .ovadr))
+      (scroll-read mem r e c 8 _ _ (f .ovscrl))
+      (font-read mem r e d 10 _ _ (f .chbase))
+      (map-read mem r e d 11 _ _ (f .mapadr))
+      (field-read mem r e d 16 _ _ (f .mappar))
+      (look-read mem r e d 20 _ _ (f .ovatt))
       ∙ simp (f .ovadr, f .mapadr, or-true)
 
   -- the 8 bytes of one that runs on
@@ -149,16 +153,16 @@ module _ (mem : List ℕ) (r : Reader) (c d : ℕ) where
   pub running-record :
       Running c d
       → recordBy mem c d r
-      ≡ put mem at (bit d 7) 8 (byteAt mem at 2) (withLook (lookAt mem at 6) (withOverlay (runOverlay (r .settings .overlay)) (r .settings)))
+      ≡ put mem r (bit d 7) 8 (byteAt mem at 2) (withLook (lookAt mem at 6) (withOverlay (runOverlay (r .settings .overlay)) (r .settings)))
   unfolding restarted
   running-record f =
       let e = bit d 7 in
       in-order
       (repeated (f .rptl))
-      (address-none mem at e c 3 _ _ (f .ovadr))
-      (scroll-read mem at e c 3 _ _ (f .ovscrl))
-      (font-read mem at e d 5 _ _ (f .chbase))
-      (map-none mem at e d 6 _ _ (f .mapadr))
-      (field-none mem at e d 6 _ _ (f .mappar))
-      (look-read mem at e d 6 _ _ (f .ovatt))
+      (address-none mem r e c 3 _ _ (f .ovadr))
+      (scroll-read mem r e c 3 _ _ (f .ovscrl))
+      (font-read mem r e d 5 _ _ (f .chbase))
+      (map-none mem r e d 6 _ _ (f .mapadr))
+      (field-none mem r e d 6 _ _ (f .mappar))
+      (look-read mem r e d 6 _ _ (f .ovatt))
       ∙ simp (f .mode, f .map, f .ovadr, f .mapadr, f .mappar)

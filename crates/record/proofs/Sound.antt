@@ -1,20 +1,25 @@
 -- A record of bytes keeps settings sound and the position in 19 bits. Between a smaller MAPPAR and the restart behind it the field counter may stand
 -- above the height, so while a record is read the map is sound but for its counter. Assumes nothing.
-use mathlib.Core.Path.{_≡_}
+use mathlib.Core.Path.{_≡_, sym, _∙_}
 use mathlib.Core.Bool.{Bool, true, false, cond, _||_}
 use mathlib.Core.List.{List}
 use Prim.Native.Nat.{ℕ, _+_, _/_, _%_, _≤_, _<_}
 use native.Mathlib.Nat.{mod-lt}
 use native.Mathlib.Omega.{arith}
 use lib.Dec.{eqb, ltb}
-use lib.ListN.{length, getD}
+use lib.ListN.{length}
 use borrow.Author.Tests.{eqb-false, ltb-false}
-use Rattle.laws.proofs.Choice.{by-cond}
+use Rattle.laws.proofs.Choice.{by-cond, true-false}
 use Rattle.laws.specs.Bit.{bit}
-use Rattle.settings.proofs.Sound.{OverlayFits, MapFits, LookFits, SettingsFit, overlay-at-fits, map-at-fits}
-use Rattle.settings.specs.Parts.{overlayAt, mapAt}
+use Rattle.settings.proofs.Sound.{OverlayFits, MapFits, LookFits, SettingsFit, overlay-at-fits, in-mode-fits, stepping-fits, scrolled-fits, in-font-fits, map-at-fits, switched-fits, map-stepping-fits}
+use Rattle.settings.specs.Parts.{inMode, mapAt, switched, mapStepping, fielded, withOverlay, withMap, withLook}
+use Rattle.settings.specs.declared.Settings.{Settings}
+use Rattle.settings.specs.declared.Overlay.{Overlay}
+use Rattle.settings.specs.declared.Map.{Map}
+use Rattle.settings.specs.declared.Look.{Look}
 use Rattle.vram.specs.Memory.{Bytes, byteAt, place}
-use Rattle.record.specs.Record.{pixelMode, overlayMode, addressAt, stepAt, fieldWidth, displayWidth, fieldRestarts, textRestarts, controlled, repeatGroup, addressGroup, scrollGroup, fontGroup, mapGroup, fieldGroup, lookGroup, restarted, fetchedBy, recordOf}
+use Rattle.record.specs.Parts.{readOn}
+use Rattle.record.specs.Record.{pixelMode, overlayMode, mapSwitch, addressAt, stepAt, fieldWidth, displayWidth, lookAt, fieldRestarts, textRestarts, controlled, repeatGroup, addressGroup, scrollGroup, fontGroup, mapGroup, fieldGroup, lookGroup, restarted, fetchedBy, recordOf}
 use Rattle.record.specs.declared.Reader.{Reader}
 
 -- the numbers that a record's bytes give
@@ -47,134 +52,136 @@ module _ (mem : List ℕ) (bytes : Bytes mem) where
   step-fits at k = omega (arith, cell at k)
 
 right-false : (s t : Bool) → s || t ≡ false → t ≡ false
-right-false true t e = absurd (let z : _≡_ {A = ℕ} 0 1 = cc in omega arith)
+right-false true t e = true-false e
 right-false false t e = e
 
--- a reader inside a record whose second control byte is d
+-- settings inside a record whose second control byte is d
+record Loose (d : ℕ) (s : Settings) : Type 0 where
+  overlay : OverlayFits (s .overlay)
+  map : MapFits (mapAt (s .map .address) 0 (s .map))
+  field : bit d 2 ≡ false → s .map .counter < s .map .height
+  look : LookFits (s .look)
+
+sound-loose : (d : ℕ) (s : Settings) → SettingsFit s → Loose d s
+sound-loose d s f =
+    let p = f .map in
+    record { overlay = f .overlay; map = map-at-fits (s .map) p (s .map .address) 0 (p .address) (omega (arith, p .low)); field = λ e. p .counter; look = f .look }
+
+module _ (d : ℕ) (s : Settings) (f : Loose d s) where
+  with-overlay : (o : Overlay) → OverlayFits o → Loose d (withOverlay o s)
+  with-overlay o k = record { overlay = k; map = f .map; field = f .field; look = f .look }
+
+  with-map : (p : Map) → MapFits (mapAt (p .address) 0 p) → (bit d 2 ≡ false → p .counter < p .height) → Loose d (withMap p s)
+  with-map p k h = record { overlay = f .overlay; map = k; field = h; look = f .look }
+
+  with-look : (l : Look) → LookFits l → Loose d (withLook l s)
+  with-look l k = record { overlay = f .overlay; map = f .map; field = f .field; look = k }
+
+-- a reader there
 record Fits (d : ℕ) (r : Reader) : Type 0 where
-  overlay : OverlayFits (r .settings .overlay)
-  map : MapFits (mapAt (r .settings .map .address) 0 (r .settings .map))
-  field : bit d 2 ≡ false → r .settings .map .counter < r .settings .map .height
-  look : LookFits (r .settings .look)
+  settings : Loose d (r .settings)
   position : r .position < 524288
 
-module _ (mem : List ℕ) (bytes : Bytes mem) (c d : ℕ) where
-  further : (n k : ℕ) → (n + k) % 524288 < 524288
-  further n k = mod-lt (n + k) (omega arith)
+read-on-fits : (d n : ℕ) (s : Settings) (r : Reader) → Loose d s → Fits d (readOn n s r)
+read-on-fits d n s r f = record { settings = f; position = mod-lt (r .position + n) (omega arith) }
 
+module _ (mem : List ℕ) (bytes : Bytes mem) (c d : ℕ) where
   controlled-fits : (r : Reader) → SettingsFit (r .settings) → Fits d (controlled c d r)
   unfolding controlled
   controlled-fits r f =
-      let o = f .overlay in
-      let p = f .map in
-      record {
-        overlay = record { mode = mode-fits c d (r .settings .overlay .mode) (o .mode); address = o .address; step = o .step; hscroll = o .hscroll; vscroll = o .vscroll; counter = o .counter };
-        map = record { address = p .address; step = p .step; hscroll = p .hscroll; vscroll = p .vscroll; narrow = p .narrow; wide = p .wide; low = p .low; high = p .high; counter = omega (arith, p .low) };
-        field = λ e. p .counter;
-        look = f .look;
-        position = further (r .position) 2;
-      }
+      let s = r .settings in
+      let o = s .overlay in
+      let p = s .map in
+      let l = sound-loose d s f in
+      let mode = overlayMode c d (o .mode) in
+      let on = mapSwitch c (p .on) in
+      let k = with-overlay d s l (inMode mode o) (in-mode-fits o (f .overlay) mode (mode-fits c d (o .mode) (f .overlay .mode))) in
+      let m = with-map d (withOverlay (inMode mode o) s) k (switched on p) (switched-fits (mapAt (p .address) 0 p) (l .map) on) (l .field) in
+      record { settings = m; position = mod-lt (r .position + 2) (omega arith) }
 
   repeat-fits : (r : Reader) → Fits d r → Fits d (repeatGroup mem c r)
   unfolding repeatGroup
   repeat-fits r f =
       by-cond (Fits d) (bit c 5) _ _
-      (λ e. record { overlay = f .overlay; map = f .map; field = f .field; look = f .look; position = further (r .position) 1 })
-      (λ e. record { overlay = f .overlay; map = f .map; field = f .field; look = f .look; position = f .position })
+      (λ e. record { settings = f .settings; position = mod-lt (r .position + 1) (omega arith) })
+      (λ e. record { settings = f .settings; position = f .position })
 
   address-group-fits : (r : Reader) → Fits d r → Fits d (addressGroup mem c r)
   unfolding addressGroup
   address-group-fits r f =
-      let o = f .overlay in
-      by-cond (Fits d) (bit c 6) _ _
-      (λ e. record {
-        overlay = record { mode = o .mode; address = address-fits mem bytes (r .position) 0; step = step-fits mem bytes (r .position) 3; hscroll = o .hscroll; vscroll = o .vscroll; counter = o .counter };
-        map = f .map;
-        field = f .field;
-        look = f .look;
-        position = further (r .position) 5;
-      })
-      (λ e. f)
+      let s = r .settings in
+      let at = r .position in
+      let k = stepping-fits (s .overlay) (f .settings .overlay) (addressAt mem at 0) (stepAt mem at 3) (address-fits mem bytes at 0) (step-fits mem bytes at 3) in
+      by-cond (Fits d) (bit c 6) _ _ (λ e. read-on-fits d 5 _ r (with-overlay d s (f .settings) _ k)) (λ e. f)
 
   scroll-fits : (r : Reader) → Fits d r → Fits d (scrollGroup mem c r)
   unfolding scrollGroup
   scroll-fits r f =
-      let o = f .overlay in
-      by-cond (Fits d) (bit c 7) _ _
-      (λ e. record {
-        overlay = record { mode = o .mode; address = o .address; step = o .step; hscroll = omega arith; vscroll = omega arith; counter = o .counter };
-        map = f .map;
-        field = f .field;
-        look = f .look;
-        position = further (r .position) 2;
-      })
-      (λ e. f)
+      let s = r .settings in
+      let at = r .position in
+      let k = scrolled-fits (s .overlay) (f .settings .overlay) (byteAt mem at 0 % 8) (byteAt mem at 1 % 8) (omega arith) (omega arith) in
+      by-cond (Fits d) (bit c 7) _ _ (λ e. read-on-fits d 2 _ r (with-overlay d s (f .settings) _ k)) (λ e. f)
 
   font-fits : (r : Reader) → Fits d r → Fits d (fontGroup mem d r)
   unfolding fontGroup
   font-fits r f =
-      let o = f .overlay in
-      by-cond (Fits d) (bit d 0) _ _
-      (λ e. record {
-        overlay = record { mode = o .mode; address = o .address; step = o .step; hscroll = o .hscroll; vscroll = o .vscroll; counter = o .counter };
-        map = f .map;
-        field = f .field;
-        look = f .look;
-        position = further (r .position) 1;
-      })
-      (λ e. f)
+      let s = r .settings in
+      let k = in-font-fits (s .overlay) (f .settings .overlay) (byteAt mem (r .position) 0) in
+      by-cond (Fits d) (bit d 0) _ _ (λ e. read-on-fits d 1 _ r (with-overlay d s (f .settings) _ k)) (λ e. f)
 
   map-group-fits : (r : Reader) → Fits d r → Fits d (mapGroup mem d r)
   unfolding mapGroup
   map-group-fits r f =
-      let p = f .map in
-      by-cond (Fits d) (bit d 1) _ _
-      (λ e. record {
-        overlay = f .overlay;
-        map = record { address = address-fits mem bytes (r .position) 0; step = step-fits mem bytes (r .position) 3; hscroll = p .hscroll; vscroll = p .vscroll; narrow = p .narrow; wide = p .wide; low = p .low; high = p .high; counter = p .counter };
-        field = f .field;
-        look = f .look;
-        position = further (r .position) 5;
-      })
-      (λ e. f)
+      let s = r .settings in
+      let p = s .map in
+      let at = r .position in
+      let q = mapStepping (addressAt mem at 0) (stepAt mem at 3) p in
+      let k = map-stepping-fits (mapAt (p .address) 0 p) (f .settings .map) (addressAt mem at 0) (stepAt mem at 3) (address-fits mem bytes at 0) (step-fits mem bytes at 3) in
+      by-cond (Fits d) (bit d 1) _ _ (λ e. read-on-fits d 5 _ r (with-map d s (f .settings) q k (f .settings .field))) (λ e. f)
 
   -- MAPPAR alone changes the height, and then the counter starts again
   field-fits : (r : Reader) → Fits d r → Fits d (fieldGroup mem d r)
   unfolding fieldGroup
   field-fits r f =
-      let p = f .map in
-      by-cond (Fits d) (bit d 2) _ _
-      (λ e. record {
-        overlay = f .overlay;
-        map = record { address = p .address; step = p .step; hscroll = omega arith; vscroll = omega arith; narrow = field-narrow (byteAt mem (r .position) 2); wide = field-wide (byteAt mem (r .position) 2); low = omega arith; high = omega arith; counter = omega arith };
-        field = λ no. absurd (let z : _≡_ {A = ℕ} 0 1 = cc in omega arith);
-        look = f .look;
-        position = further (r .position) 4;
-      })
-      (λ e. f)
+      let s = r .settings in
+      let at = r .position in
+      let p = f .settings .map in
+      let b = byteAt mem at 2 in
+      let q = fielded (byteAt mem at 0 % 32) (byteAt mem at 1 % 32) (fieldWidth b) (byteAt mem at 3 % 32 + 1) (s .map) in
+      let k : MapFits (mapAt (q .address) 0 q) = record {
+        address = p .address;
+        step = p .step;
+        hscroll = omega arith;
+        vscroll = omega arith;
+        narrow = field-narrow b;
+        wide = field-wide b;
+        low = omega arith;
+        high = omega arith;
+        counter = omega arith;
+      } in
+      by-cond (Fits d) (bit d 2) _ _ (λ e. read-on-fits d 4 _ r (with-map d s (f .settings) q k (λ no. true-false (sym e ∙ no)))) (λ e. f)
 
   look-group-fits : (r : Reader) → Fits d r → Fits d (lookGroup mem d r)
   unfolding lookGroup
   look-group-fits r f =
-      by-cond (Fits d) (bit d 3) _ _
-      (λ e. record {
-        overlay = f .overlay;
-        map = f .map;
-        field = f .field;
-        look = record { width = display-fits (byteAt mem (r .position) 0); palette = omega arith; playfield = omega arith };
-        position = further (r .position) 2;
-      })
-      (λ e. f)
+      let s = r .settings in
+      let at = r .position in
+      let k : LookFits (lookAt mem at 0) = record { width = display-fits (byteAt mem at 0); palette = omega arith; playfield = omega arith } in
+      by-cond (Fits d) (bit d 3) _ _ (λ e. read-on-fits d 2 _ r (with-look d s (f .settings) (lookAt mem at 0) k)) (λ e. f)
 
   restarted-fits : (r : Reader) → Fits d r → SettingsFit (restarted c d r .settings)
   unfolding restarted
   restarted-fits r f =
       let o = r .settings .overlay in
       let p = r .settings .map in
+      let l = f .settings in
+      let text : cond (textRestarts c) 0 (o .counter) < 8 = by-cond (λ (n : ℕ). n < 8) (textRestarts c) 0 (o .counter) (λ e. omega arith) (λ e. l .overlay .counter) in
+      let again = cond (fieldRestarts d) 0 (p .counter) in
+      let field : again < p .height = by-cond (λ (n : ℕ). n < p .height) (fieldRestarts d) 0 (p .counter) (λ e. l .map .low) (λ e. l .field (right-false (bit d 1) (bit d 2) e)) in
       record {
-        overlay = overlay-at-fits o (o .address) (cond (textRestarts c) 0 (o .counter)) (f .overlay) (f .overlay .address) (by-cond (λ (n : ℕ). n < 8) (textRestarts c) 0 (o .counter) (λ e. omega arith) (λ e. f .overlay .counter));
-        map = map-at-fits (mapAt (p .address) 0 p) (p .address) (cond (fieldRestarts d) 0 (p .counter)) (f .map) (f .map .address) (by-cond (λ (n : ℕ). n < p .height) (fieldRestarts d) 0 (p .counter) (λ e. f .map .low) (λ e. f .field (right-false (bit d 1) (bit d 2) e)));
-        look = f .look;
+        overlay = overlay-at-fits o (l .overlay) (o .address) (cond (textRestarts c) 0 (o .counter)) (l .overlay .address) text;
+        map = map-at-fits (mapAt (p .address) 0 p) (l .map) (p .address) again (l .map .address) field;
+        look = l .look;
       }
 
   fetched-fits : (r : Reader) → Fits d r → Fits d (fetchedBy mem c d r)
@@ -183,11 +190,17 @@ module _ (mem : List ℕ) (bytes : Bytes mem) (c d : ℕ) where
 
 -- a sound frame's record leaves sound settings, and a position of 19 bits
 module _ (mem : List ℕ) (bytes : Bytes mem) (r : Reader) (f : SettingsFit (r .settings)) where
-  read-fits : Fits (byteAt mem (r .position) 1) (fetchedBy mem (byteAt mem (r .position) 0) (byteAt mem (r .position) 1) (controlled (byteAt mem (r .position) 0) (byteAt mem (r .position) 1) r))
-  read-fits = fetched-fits mem bytes (byteAt mem (r .position) 0) (byteAt mem (r .position) 1) _ (controlled-fits mem bytes (byteAt mem (r .position) 0) (byteAt mem (r .position) 1) r f)
+  abbrev c : ℕ
+  c = byteAt mem (r .position) 0
+
+  abbrev d : ℕ
+  d = byteAt mem (r .position) 1
+
+  read-fits : Fits d (fetchedBy mem c d (controlled c d r))
+  read-fits = fetched-fits mem bytes c d _ (controlled-fits mem bytes c d r f)
 
   pub record-fits : SettingsFit (recordOf mem r .settings)
-  record-fits = restarted-fits mem bytes (byteAt mem (r .position) 0) (byteAt mem (r .position) 1) _ read-fits
+  record-fits = restarted-fits mem bytes c d _ read-fits
 
   pub record-position : recordOf mem r .position < 524288
   unfolding restarted

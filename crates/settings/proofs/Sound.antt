@@ -1,6 +1,6 @@
 -- Sound settings: the row of tests taken apart into facts and put together again; beginning, advancing and going dark keep it. Assumes nothing.
 use mathlib.Core.Path.{_≡_, refl}
-use mathlib.Core.Bool.{true}
+use mathlib.Core.Bool.{Bool, true, false}
 use mathlib.Core.List.{[], _∷_}
 use Prim.Native.Nat.{ℕ, _+_, _%_, _≤_, _<_}
 use native.Mathlib.Nat.{mod-lt}
@@ -9,7 +9,7 @@ use lib.Dec.{eqb, ltb, leb}
 use borrow.Author.Tests.{ltb-true, leb-true, lt-ltb, le-leb}
 use Rattle.laws.proofs.Choice.{by-cond, each-test}
 use Rattle.settings.specs.Settings.{beginning, soundOverlay, soundMap, soundLook, soundSettings, advancedOverlay, advancedMap, advanced, off}
-use Rattle.settings.specs.Parts.{overlayAt, mapAt}
+use Rattle.settings.specs.Parts.{overlayAt, inMode, stepping, scrolled, inFont, mapAt, switched, mapStepping}
 use Rattle.settings.specs.declared.Settings.{Settings}
 use Rattle.settings.specs.declared.Overlay.{Overlay}
 use Rattle.settings.specs.declared.Map.{Map}
@@ -98,24 +98,35 @@ look-sound l f = simp (le-leb _ _ (f .width), lt-ltb _ _ (f .palette), lt-ltb _ 
 pub settings-sound : (s : Settings) → SettingsFit s → soundSettings s ≡ true
 settings-sound s f = simp (overlay-sound (s .overlay) (f .overlay), map-sound (s .map) (f .map), look-sound (s .look) (f .look))
 
--- another address and counter within their ranges
-pub overlay-at-fits : (o : Overlay) (a c : ℕ) → OverlayFits o → a < 524288 → c < 8 → OverlayFits (overlayAt a c o)
-overlay-at-fits o a c f l m =
-    record { mode = f .mode; address = l; step = f .step; hscroll = f .hscroll; vscroll = f .vscroll; counter = m }
+-- an overlay and a map with other parts that are within their ranges
+module _ (o : Overlay) (f : OverlayFits o) where
+  pub overlay-at-fits : (a c : ℕ) → a < 524288 → c < 8 → OverlayFits (overlayAt a c o)
+  overlay-at-fits a c l m = record { mode = f .mode; address = l; step = f .step; hscroll = f .hscroll; vscroll = f .vscroll; counter = m }
 
-pub map-at-fits : (p : Map) (a c : ℕ) → MapFits p → a < 524288 → c < p .height → MapFits (mapAt a c p)
-map-at-fits p a c f l m =
-    record {
-      address = l;
-      step = f .step;
-      hscroll = f .hscroll;
-      vscroll = f .vscroll;
-      narrow = f .narrow;
-      wide = f .wide;
-      low = f .low;
-      high = f .high;
-      counter = m;
-    }
+  pub in-mode-fits : (m : ℕ) → m ≤ 4 → OverlayFits (inMode m o)
+  in-mode-fits m h = record { mode = h; address = f .address; step = f .step; hscroll = f .hscroll; vscroll = f .vscroll; counter = f .counter }
+
+  pub stepping-fits : (a s : ℕ) → a < 524288 → s < 4096 → OverlayFits (stepping a s o)
+  stepping-fits a s l m = record { mode = f .mode; address = l; step = m; hscroll = f .hscroll; vscroll = f .vscroll; counter = f .counter }
+
+  pub scrolled-fits : (h v : ℕ) → h < 8 → v < 8 → OverlayFits (scrolled h v o)
+  scrolled-fits h v l m = record { mode = f .mode; address = f .address; step = f .step; hscroll = l; vscroll = m; counter = f .counter }
+
+  pub in-font-fits : (n : ℕ) → OverlayFits (inFont n o)
+  in-font-fits n = record { mode = f .mode; address = f .address; step = f .step; hscroll = f .hscroll; vscroll = f .vscroll; counter = f .counter }
+
+module _ (p : Map) (f : MapFits p) where
+  pub map-at-fits : (a c : ℕ) → a < 524288 → c < p .height → MapFits (mapAt a c p)
+  map-at-fits a c l m =
+      record { address = l; step = f .step; hscroll = f .hscroll; vscroll = f .vscroll; narrow = f .narrow; wide = f .wide; low = f .low; high = f .high; counter = m }
+
+  pub switched-fits : (on : Bool) → MapFits (switched on p)
+  switched-fits on =
+      record { address = f .address; step = f .step; hscroll = f .hscroll; vscroll = f .vscroll; narrow = f .narrow; wide = f .wide; low = f .low; high = f .high; counter = f .counter }
+
+  pub map-stepping-fits : (a s : ℕ) → a < 524288 → s < 4096 → MapFits (mapStepping a s p)
+  map-stepping-fits a s l m =
+      record { address = l; step = m; hscroll = f .hscroll; vscroll = f .vscroll; narrow = f .narrow; wide = f .wide; low = f .low; high = f .high; counter = f .counter }
 
 overlay-advances : (o : Overlay) → OverlayFits o → OverlayFits (advancedOverlay o)
 unfolding advancedOverlay
@@ -125,17 +136,17 @@ overlay-advances o f =
     by-cond OverlayFits (eqb (o .mode) 0) _ _ (λ e. f) (λ e.
     by-cond OverlayFits (eqb (o .mode) 1) _ _
     (λ e. by-cond OverlayFits (ltb (o .counter) 7) _ _
-    (λ t. overlay-at-fits o (o .address) (o .counter + 1) f (f .address) (omega (arith, ltb-true (o .counter) 7 t)))
-    (λ t. overlay-at-fits o further 0 f l (omega arith)))
-    (λ e. overlay-at-fits o further (o .counter) f l (f .counter)))
+    (λ t. overlay-at-fits o f (o .address) (o .counter + 1) (f .address) (omega (arith, ltb-true (o .counter) 7 t)))
+    (λ t. overlay-at-fits o f further 0 l (omega arith)))
+    (λ e. overlay-at-fits o f further (o .counter) l (f .counter)))
 
 map-advances : (p : Map) → MapFits p → MapFits (advancedMap p)
 unfolding advancedMap
 map-advances p f =
     by-cond MapFits (p .on) _ _
     (λ e. by-cond MapFits (ltb (p .counter + 1) (p .height)) _ _
-    (λ t. map-at-fits p (p .address) (p .counter + 1) f (f .address) (ltb-true (p .counter + 1) (p .height) t))
-    (λ t. map-at-fits p ((p .address + p .step) % 524288) 0 f (mod-lt (p .address + p .step) (omega arith)) (omega (arith, f .low))))
+    (λ t. map-at-fits p f (p .address) (p .counter + 1) (f .address) (ltb-true (p .counter + 1) (p .height) t))
+    (λ t. map-at-fits p f ((p .address + p .step) % 524288) 0 (mod-lt (p .address + p .step) (omega arith)) (omega (arith, f .low))))
     (λ e. f)
 
 pub sound-beginning : soundSettings beginning ≡ true
@@ -151,10 +162,4 @@ pub sound-off : (s : Settings) → soundSettings s ≡ true → soundSettings (o
 unfolding off
 sound-off s e =
     let f = settings-fit s e in
-    let o = f .overlay in
-    let p = f .map in
-    settings-sound (off s) (record {
-      overlay = record { mode = omega arith; address = o .address; step = o .step; hscroll = o .hscroll; vscroll = o .vscroll; counter = o .counter };
-      map = record { address = p .address; step = p .step; hscroll = p .hscroll; vscroll = p .vscroll; narrow = p .narrow; wide = p .wide; low = p .low; high = p .high; counter = p .counter };
-      look = f .look;
-    })
+    settings-sound (off s) (record { overlay = in-mode-fits (s .overlay) (f .overlay) 0 (omega arith); map = switched-fits (s .map) (f .map) false; look = f .look })

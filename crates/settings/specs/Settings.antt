@@ -1,5 +1,5 @@
 -- Document 01, "The XDL and its 240 lines": the settings of a line, how they begin, which are sound, and how a line advances them.
-use mathlib.Core.Bool.{Bool, true, false, cond, _&&_}
+use mathlib.Core.Bool.{Bool, false, cond, _&&_}
 use Prim.Native.Nat.{_+_, _%_}
 use lib.Dec.{eqb, ltb, leb}
 use Rattle.settings.specs.Parts.{overlayAt, inMode, mapAt, switched, withOverlay, withMap}

@@ -62,12 +62,15 @@ enter-tall (full b) l s t = full-fits b s .low
 enter-tall (running b) l s t = ⊎-elim (λ (e : false ≡ true). true-false (sym e)) (λ h. h) t
 
 module _ (mem : List ℕ) where
-  -- a reader at the begin of a record or past the last, and one that repeats a record's settings
+  -- a reader at p; at the begin of a record or past the last; and one that repeats a record's settings
+  abbrev reading : Settings → ℕ → ℕ → Bool → Reader
+  reading set p repeat ended = record { settings = set; position = p; repeat = repeat; ended = ended }
+
   abbrev at-item : Settings → ℕ → Bool → Reader
-  at-item set p ended = record { settings = set; position = p; repeat = 0; ended = ended }
+  at-item set p ended = reading set p 0 ended
 
   abbrev held : Latest → ℕ → ℕ → ℕ → Bool → Reader
-  held e r p d last = record { settings = settingsAt e d; position = p; repeat = r; ended = last }
+  held e r p d last = reading (settingsAt e d) p r last
 
   -- 1. The lines that are repeated.
   module _ (e : Latest) (tall : Tall e) (p : ℕ) (last : Bool) where
@@ -79,7 +82,7 @@ module _ (mem : List ℕ) where
     unfolding seen
     turn r d k =
         ap (λ (f : Reader). seen mem (advancedReader f) k) (fetch-held r d)
-        ∙ ap (λ (x : Settings). seen mem (record { settings = x; position = p; repeat = r; ended = last }) k) (advance e d tall)
+        ∙ ap (λ (x : Settings). seen mem (reading x p r last) k) (advance e d tall)
 
     held-in : (r d k : ℕ) → k < r → seen mem (held e r p d last) k ≡ settingsAt e (d + k)
     unfolding seen
@@ -110,13 +113,13 @@ module _ (mem : List ℕ) where
   unfolding fetched
   fetch-item (full b) more l set p last s r h =
       read-full mem (at-item set p false) b last s h
-      ∙ ap (λ (x : Settings). record { settings = x; position = (p + 22) % 524288; repeat = b .lines - 1; ended = last }) (full-first b s)
+      ∙ ap (λ (x : Settings). reading x ((p + 22) % 524288) (b .lines - 1) last) (full-first b s)
   fetch-item (running b) more l set p last s r h =
       ⊎-elim
       (λ (e : false ≡ true). true-false (sym e))
       (λ e.
       read-running mem (at-item set p false) b last s h
-      ∙ ap (λ (x : Settings). record { settings = x; position = (p + 8) % 524288; repeat = b .lines - 1; ended = last })
+      ∙ ap (λ (x : Settings). reading x ((p + 8) % 524288) (b .lines - 1) last)
       (ap (runningSettings b) (e .0) ∙ running-below b (l .first) (l .below + 0)))
       r
 

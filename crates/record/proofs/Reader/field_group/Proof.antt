@@ -28,7 +28,13 @@ further-requires c κs = search needs
 
 returns : tie.Need-returns
 unfolding fieldGroup
-returns c = simp (c .before .before .before .before .before .before .before .before .before .before .if1 .taken, c .before .before .before .before .before .before .before .before .before .byte-at .ensures, c .before .before .before .before .before .before .before .before .byte-at2 .ensures, c .before .before .before .before .before .before .before .byte-at3 .ensures, c .before .before .before .before .before .before .field-width .ensures, c .before .before .before .before .before .byte-at4 .ensures, c .further .ensures)
+returns c =
+    let four = c .before .before .before .before .before in
+    let width = four .before in
+    let three = width .before in
+    let two = three .before in
+    let one = two .before in
+    simp (one .before .if1 .taken, one .byte-at .ensures, two .byte-at2 .ensures, three .byte-at3 .ensures, width .field-width .ensures, four .byte-at4 .ensures, c .further .ensures)
 
 returns-2 : tie.Need-returns-2
 unfolding fieldGroup

@@ -19,7 +19,11 @@ further-requires c κs = search needs
 
 returns : tie.Need-returns
 unfolding lookGroup
-returns c = simp (c .before .before .before .before .before .before .before .before .if1 .taken, c .before .before .before .before .before .before .before .byte-at .ensures, c .before .before .before .before .before .before .display-width .ensures, c .before .before .before .before .before .byte-at2 .ensures, c .further .ensures)
+returns c =
+    let two = c .before .before .before .before .before in
+    let width = two .before in
+    let one = width .before in
+    simp (one .before .if1 .taken, one .byte-at .ensures, width .display-width .ensures, two .byte-at2 .ensures, c .further .ensures)
 
 returns-2 : tie.Need-returns-2
 unfolding lookGroup

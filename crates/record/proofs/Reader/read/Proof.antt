@@ -37,7 +37,20 @@ restart-requires : tie.Need-restart-requires
 restart-requires c κs = search needs
 
 returns : tie.Need-returns
-returns c = simp (c .restart .ensures, c .before .look-group .ensures, c .before .before .field-group .ensures, c .before .before .before .map-group .ensures, c .before .before .before .before .font-group .ensures, c .before .before .before .before .before .scroll-group .ensures, c .before .before .before .before .before .before .address-group .ensures, c .before .before .before .before .before .before .before .repeat-group .ensures, c .before .before .before .before .before .before .before .before .control .ensures, c .before .before .before .before .before .before .before .before .before .before .byte-at .ensures, c .before .before .before .before .before .before .before .before .before .byte-at2 .ensures)
+returns c =
+    let look = c .before in
+    let field = look .before in
+    let map = field .before in
+    let font = map .before in
+    let scroll = font .before in
+    let address = scroll .before in
+    let repeat = address .before in
+    let control = repeat .before in
+    let second = control .before in
+    simp
+    (c .restart .ensures, look .look-group .ensures, field .field-group .ensures, map .map-group .ensures, font .font-group .ensures,
+    scroll .scroll-group .ensures, address .address-group .ensures, repeat .repeat-group .ensures, control .control .ensures,
+    second .before .byte-at .ensures, second .byte-at2 .ensures)
 
 pub read-spec : {M : Type 1} → statement M
 read-spec =
