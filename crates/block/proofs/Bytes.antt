@@ -3,8 +3,7 @@ use mathlib.Core.Path.{_≡_}
 use mathlib.Core.List.{List}
 use Prim.Native.Nat.{ℕ, _+_, _≤_, _<_}
 use native.Mathlib.Omega.{arith}
-use lib.ListN.{getD}
-use Rattle.vram.specs.Memory.{byteAt}
+use Rattle.vram.specs.Memory.{Bytes, byteAt}
 use Rattle.step.specs.declared.Side.{Side}
 use Rattle.block.specs.Block.{sideAt, blockAt}
 use Rattle.block.specs.declared.Block.{Block}
@@ -64,7 +63,7 @@ pub record BlockBytes (b : Block) : Type 0 where
   pub pattern : b .pattern < 256
   pub control : b .control < 256
 
-module _ (mem : List ℕ) (list : ℕ) (bytes : (i : ℕ) → getD mem i 0 < 256) where
+module _ (mem : List ℕ) (list : ℕ) (bytes : Bytes mem) where
   side-bytes : (k : ℕ) → SideBytes (sideAt mem list k)
   unfolding sideAt
   side-bytes k = record { adr0 = bytes _; adr1 = bytes _; adr2 = bytes _; y0 = bytes _; y1 = bytes _; x = bytes _ }
