@@ -14,9 +14,9 @@ use Rattle.vram.specs.Memory.{goodLength, place}
 use Rattle.mode.specs.Mode.{valueIn, writesIn, costIn, accessesIn, strokeOf}
 use Rattle.mode.proofs.Laws.{code-stays}
 use Rattle.block.specs.Block.{modeOf}
-use Rattle.block.specs.Byte.{readsSource}
+use Rattle.block.specs.Byte.{readsSource, strokeBy, writtenBy, struckBy}
 use Rattle.block.specs.declared.Block.{Block}
-use Rattle.stretch.specs.Stretch.{trace, strokeBy, struck, strokes}
+use Rattle.stretch.specs.Stretch.{trace, struck, strokes}
 use Rattle.stretch.specs.Flat.{Makes}
 use Rattle.stretch.proofs.Strokes.{less, none, all}
 use Rattle.stretch.proofs.Single.{masked, masked-read, copy-is}
@@ -104,7 +104,7 @@ module _ {b : Block} {count from at : ℕ} {first : List ℕ} where
         read = cond (readsSource b) 1 0
 
         byte : (code : ℕ) → struck b (from + k) (at + k) (trace mem code made) ≡ trace (set mem (at + k) (cond (writesIn mode s) (valueIn mode s d) d)) code (made + (cond (writesIn mode s) (costIn mode (b .hitmask)) 0 + read))
-        unfolding struck strokeBy strokeOf accessesIn
+        unfolding struck struckBy strokeBy writtenBy strokeOf accessesIn
         byte code =
             rw (masked-read b mem (from + k) (λ e. omega arith), there, here, sym m, code-stays mode (b .hitmask) s d code z)
             (ap (λ (l : List ℕ). trace l code (made + (cond (writesIn mode s) (costIn mode (b .hitmask)) 0 + read))) (write-back (writesIn mode s) mem (at + k) (valueIn mode s d)))

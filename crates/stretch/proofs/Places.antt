@@ -7,9 +7,9 @@ use native.Mathlib.Omega.{arith}
 use lib.ListN.{length}
 use Rattle.vram.specs.Memory.{goodLength, place}
 use Rattle.vram.proofs.Length.{good, wrap}
-use Rattle.block.specs.Byte.{readsSource}
+use Rattle.block.specs.Byte.{readsSource, sourceBy, strokeBy, writtenBy, struckBy}
 use Rattle.block.specs.declared.Block.{Block}
-use Rattle.stretch.specs.Stretch.{Trace, strokeBy, struck, strokes}
+use Rattle.stretch.specs.Stretch.{Trace, struck, strokes}
 use Rattle.stretch.proofs.Strokes.{struck-length}
 
 module _ (L : ℕ) (g : goodLength L ≡ true) where
@@ -34,12 +34,12 @@ module _ (L : ℕ) (g : goodLength L ≡ true) where
 
 -- one byte, by the same places, or with no source read
 module _ (b : Block) (from from′ to to′ : ℕ) (d : Trace) where
-  same-byte : place (length (d .mem)) from ≡ place (length (d .mem)) from′ → place (length (d .mem)) to ≡ place (length (d .mem)) to′ → struck b from to d ≡ struck b from′ to′ d
-  unfolding struck strokeBy
+  pub same-byte : place (length (d .mem)) from ≡ place (length (d .mem)) from′ → place (length (d .mem)) to ≡ place (length (d .mem)) to′ → struck b from to d ≡ struck b from′ to′ d
+  unfolding struck struckBy strokeBy writtenBy sourceBy
   same-byte p q = rw (p, q)
 
   unread-byte : readsSource b ≡ false → struck b from to d ≡ struck b from′ to d
-  unfolding struck strokeBy
+  unfolding struck struckBy strokeBy writtenBy sourceBy
   unread-byte r = rw r
 
 module _ (b : Block) (step : ℕ) where

@@ -4,7 +4,7 @@ use mathlib.Core.Bool.{true, cond}
 use mathlib.Core.List.{List}
 use Prim.Native.Nat.{ℕ, suc, _+_, _-_, _*_, _≤_, _<_}
 use native.Mathlib.Omega.{arith}
-use lib.ListN.{length, length-set}
+use lib.ListN.{length}
 use Rattle.laws.proofs.Choice.{by-cond}
 use Rattle.vram.specs.Memory.{goodLength}
 use Rattle.mode.specs.Mode.{strokeOf}
@@ -13,7 +13,8 @@ use Rattle.mode.proofs.Laws.{accesses-small}
 use Rattle.block.specs.Byte.{readsSource}
 use Rattle.block.specs.declared.Block.{Block}
 use Rattle.block.specs.declared.Struck.{Struck}
-use Rattle.stretch.specs.Stretch.{Trace, trace, strokeBy, struck, strokes}
+use Rattle.block.proofs.Byte.{written-length, struck-small}
+use Rattle.stretch.specs.Stretch.{Trace, trace, struck, strokes}
 
 -- a byte less is left, or none
 pub less : (count k : ℕ) → k < count → suc (count - (k + 1)) ≡ count - k
@@ -43,11 +44,11 @@ both-small b mode mask s d code k u e i = omega (arith, stroke-small mode mask s
 module _ (b : Block) (from to : ℕ) (d : Trace) where
   pub struck-length : length (struck b from to d .mem) ≡ length (d .mem)
   unfolding struck
-  struck-length = by-cond (λ (m : List ℕ). length m ≡ length (d .mem)) (strokeBy b (d .mem) from to (d .code) .written) _ (d .mem) (λ _. length-set (d .mem) _ _) (λ _. refl)
+  struck-length = written-length b from to (d .mem)
 
-  struck-small : struck b from to d .accesses ≤ d .accesses + 3
-  unfolding struck strokeBy
-  struck-small = omega (arith, read-small b, stroke-small _ _ _ _ _ (strokeBy b (d .mem) from to (d .code)) refl)
+  pub struck-few : struck b from to d .accesses ≤ d .accesses + 3
+  unfolding struck
+  struck-few = omega (arith, struck-small b from to (d .mem) (d .code))
 
 -- an address after k steps: every step is a word
 pub record Reached (step address k : ℕ) : Type 0 where
@@ -101,7 +102,7 @@ module _ {b : Block} {along step count from₀ to₀ : ℕ} {first : List ℕ} {
           good = g .good;
           long = ap (λ (d : Trace). length (d .mem)) (sym e) ∙ struck-length b from to (trace mem code made) ∙ g .long;
           most = g .most;
-          counted = omega (arith, g .counted, struck-small b from to (trace mem code made), ap (λ (d : Trace). d .accesses) e);
+          counted = omega (arith, g .counted, struck-few b from to (trace mem code made), ap (λ (d : Trace). d .accesses) e);
           same =
               ap (λ (d : Trace). strokes b along step (count - (k + 1)) (from + along) (to + step) d) (sym e)
               ∙ ap (λ (n : ℕ). strokes b along step n from to (trace mem code made)) (less count k h)

@@ -2,25 +2,11 @@
 use mathlib.Core.Bool.{cond}
 use mathlib.Core.List.{List}
 use Prim.Native.Nat.{ℕ, zero, suc, _+_}
-use lib.Bits.{bitAnd, bitXor}
-use lib.ListN.{length, set}
-use Rattle.vram.specs.Memory.{goodLength, place, cellAt}
-use Rattle.mode.specs.Mode.{strokeOf}
-use Rattle.mode.specs.declared.Stroke.{Stroke}
-use Rattle.block.specs.Block.{modeOf}
-use Rattle.block.specs.Byte.{readsSource}
+use lib.ListN.{length}
+use Rattle.vram.specs.Memory.{goodLength}
+use Rattle.block.specs.Byte.{writtenBy, struckBy}
 use Rattle.block.specs.declared.Block.{Block}
 use Rattle.stretch.specs.declared.Stretch.{Stretch}
-
--- one destination byte, from the address of its source and its own
-unfoldable pub strokeBy : Block → List ℕ → ℕ → ℕ → ℕ → Stroke
-strokeBy b mem from to code =
-    strokeOf
-    (modeOf b)
-    (b .hitmask)
-    (bitXor (bitAnd (cond (readsSource b) (cellAt mem from) 0) (b .andmask)) (b .xormask))
-    (cellAt mem to)
-    code
 
 -- a stretch so far: memory, the collision code, the accesses
 pub record Trace : Type 0 where
@@ -31,14 +17,11 @@ pub record Trace : Type 0 where
 abbrev pub trace : List ℕ → ℕ → ℕ → Trace
 trace mem code accesses = record { mem = mem; code = code; accesses = accesses }
 
--- one byte more: "A source read counts 1"
+-- one byte more
 unfoldable pub struck : Block → ℕ → ℕ → Trace → Trace
 struck b from to d =
-    let k = strokeBy b (d .mem) from to (d .code) in
-    trace
-    (cond (k .written) (set (d .mem) (place (length (d .mem)) to) (k .value)) (d .mem))
-    (k .code)
-    (d .accesses + (k .accesses + cond (readsSource b) 1 0))
+    let byte = struckBy b (d .mem) from to (d .code) in
+    trace (writtenBy b from to (d .mem)) (byte .code) (d .accesses + byte .accesses)
 
 -- n bytes more, each address a step further
 unfoldable pub strokes : Block → ℕ → ℕ → ℕ → ℕ → ℕ → Trace → Trace
