@@ -16,8 +16,9 @@ use Rattle.block.specs.Byte.{written, struckAt}
 use Rattle.block.specs.declared.Block.{Block}
 use Rattle.block.specs.declared.Struck.{Struck}
 use Rattle.block.proofs.Byte.{written-length, struck-small}
-use Rattle.stretch.specs.Stretch.{Trace, trace, strokes, traceOf}
+use Rattle.stretch.specs.Stretch.{Trace, trace, struck, strokes, traceOf}
 use Rattle.blitter.specs.declared.Blitter.{Blitter}
+use Rattle.blitter.specs.State.{withWork, withNote}
 use Rattle.engine.specs.Tick.{busyAt, ended, movedOn, byteTick, tickBlitter, tickMemory, tickCount}
 use Rattle.engine.specs.Run.{Progress, ticked, runFor, progress}
 use Rattle.engine.specs.Engine.{BurstFrom, BurstTo, Column, Row, Reach, tallOf, sourceStep, destStep, aheadRow, aheadCol, stretchAt}
@@ -33,8 +34,7 @@ less budget done h = omega arith
 
 -- the same flags at another position
 abbrev placed : Blitter → ℕ → ℕ → ℕ → ℕ → Blitter
-placed b flags row col code =
-    record { irqe = b .irqe; irqf = b .irqf; list = b .list; flags = flags; code = code; block = b .block; row = row; col = col }
+placed b flags row col code = withWork flags (b .block) row col (withNote code b)
 
 -- which are those of a busy blitter
 as-busy : (b : Blitter) (row col code : ℕ) → b .flags ≡ 2 → busyAt b row col code ≡ placed b (b .flags) row col code
@@ -90,11 +90,11 @@ module _ {b : Blitter} {first : List ℕ} {ticks accesses budget : ℕ} where
           ∙ g .same
 
       long-on : length (written (b .block) row col mem) ≡ length first
-      long-on = written-length (b .block) row col mem ∙ g .long
+      long-on = written-length (b .block) _ _ mem ∙ g .long
 
       few-on : made + byte .accesses ≤ 21 * (done + 1)
       unfolding byte
-      few-on = omega (arith, struck-small (b .block) row col mem code, g .counted)
+      few-on = let few : byte .accesses ≤ 3 = struck-small (b .block) _ _ mem code in omega (arith, few, g .counted)
 
       -- the next column
       turn-col : col + 1 < columnsOf (b .block) → Bursting b first ticks accesses budget (written (b .block) row col mem) row (col + 1) (struckAt (b .block) mem row col code .code) (done + 1) (made + struckAt (b .block) mem row col code .accesses)
@@ -178,9 +178,10 @@ module _ (b : Blitter) (first : List ℕ) (ticks accesses budget : ℕ) where
     one-more : (k : ℕ) → Reach (b .block) row col (suc k)
         → trace (written (b .block) (rowOn k) (colOn k) (many k .mem)) (struckAt (b .block) (many k .mem) (rowOn k) (colOn k) (many k .code) .code) (many k .accesses + struckAt (b .block) (many k .mem) (rowOn k) (colOn k) (many k .code) .accesses)
         ≡ many (suc k)
+    unfolding struck
     one-more k r =
         sym (strokes-last (b .block) (sourceStep (b .block)) (destStep (b .block)) k (sourceAddress (b .block) row col) (destAddress (b .block) row col) (trace mem code made)
-        ∙ struck-at (b .block) (rowOn k) (colOn k) _ _ (many k .mem) (many k .code) (many k .accesses) (source-on (b .block) row col k r) (dest-on (b .block) row col k))
+        ∙ struck-at (b .block) (rowOn k) (colOn k) _ _ (many k) (source-on (b .block) row col k r) (dest-on (b .block) row col k))
 
     -- one turn more, down a tall block
     down : (k : ℕ) → Column (b .block) row (suc (suc k)) → done + suc k < budget → At (many k) (rowOn k) (colOn k) (done + k) → At (many (suc k)) (rowOn (suc k)) (colOn (suc k)) (done + suc k)

@@ -64,8 +64,8 @@ tick-bytes b mem h = by (eqb (b .flags) 0) (eqb (b .flags) 1)
     by false false =
         let k = h .held .block-in in
         unfold byteTick in record {
-          cells = written-bytes (b .block) (b .row) (b .col) mem (h .cells) (k .andmask) (k .xormask);
-          held = advanced-held b _ k (code-byte (b .block) (b .row) (b .col) mem (h .cells) (b .code) (h .held .code-in));
+          cells = written-bytes (b .block) _ _ mem (h .cells) (k .andmask) (k .xormask);
+          held = advanced-held b _ k (code-byte (b .block) _ _ mem (h .cells) (b .code) (h .held .code-in));
         }
 
 pub after-bytes : (n : ℕ) (s : Machine) → Bytes (s .blitter) (s .mem) → Bytes (after n s .blitter) (after n s .mem)

@@ -9,6 +9,7 @@ use lib.ListN.{length}
 use borrow.Author.Tests.{eqb-false, ltb-true, ne-eqb}
 use Rattle.laws.proofs.Choice.{by-cond}
 use Rattle.block.specs.Block.{columnsOf, rowsOf, nextOf}
+use Rattle.block.specs.Byte.{struckAt}
 use Rattle.block.proofs.Byte.{written-length, struck-small}
 use Rattle.blitter.specs.declared.Blitter.{Blitter}
 use Rattle.engine.specs.Tick.{loadTick, busyAt, ended, movedOn, byteTick, tickBlitter, tickMemory, tickCount}
@@ -18,21 +19,25 @@ pub tick-length : (b : Blitter) (mem : List ℕ) → length (tickMemory b mem) �
 unfolding tickMemory
 tick-length b mem =
     let Same : (List ℕ → Type 0) = λ m. length m ≡ length mem in
-    by-cond Same (eqb (b .flags) 0) _ _ (λ _. refl) (λ _. by-cond Same (eqb (b .flags) 1) _ _ (λ _. refl) (λ _. written-length (b .block) (b .row) (b .col) mem))
+    by-cond Same (eqb (b .flags) 0) _ _ (λ _. refl) (λ _. by-cond Same (eqb (b .flags) 1) _ _ (λ _. refl) (λ _. written-length (b .block) _ _ mem))
+
+-- a byte tick's accesses
+byte-few : (b : Blitter) (mem : List ℕ) → struckAt (b .block) mem (b .row) (b .col) (b .code) .accesses ≤ 3
+byte-few b mem = struck-small (b .block) _ _ mem (b .code)
 
 pub tick-small : (b : Blitter) (mem : List ℕ) → tickCount b mem ≤ 21
 unfolding tickCount
 tick-small b mem =
     let Few : (ℕ → Type 0) = λ n. n ≤ 21 in
     by-cond Few (eqb (b .flags) 0) _ _ (λ _. omega arith)
-    (λ _. by-cond Few (eqb (b .flags) 1) _ _ (λ _. omega arith) (λ _. omega (arith, struck-small (b .block) (b .row) (b .col) mem (b .code))))
+    (λ _. by-cond Few (eqb (b .flags) 1) _ _ (λ _. omega arith) (λ _. omega (arith, byte-few b mem)))
 
 -- 3 where it is no load
 pub tick-few : (b : Blitter) (mem : List ℕ) → (b .flags ≡ 1 → ⊥) → tickCount b mem ≤ 3
 unfolding tickCount
 tick-few b mem n1 =
     rw (ne-eqb (b .flags) 1 n1)
-    (by-cond (λ (n : ℕ). n ≤ 3) (eqb (b .flags) 0) _ _ (λ _. omega arith) (λ _. struck-small (b .block) (b .row) (b .col) mem (b .code)))
+    (by-cond (λ (n : ℕ). n ≤ 3) (eqb (b .flags) 0) _ _ (λ _. omega arith) (λ _. byte-few b mem))
 
 pub load-sound : (b : Blitter) (mem : List ℕ) → Sound (loadTick b mem)
 unfolding loadTick

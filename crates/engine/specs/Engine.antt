@@ -13,7 +13,7 @@ use Rattle.block.specs.declared.Block.{Block}
 use Rattle.stretch.specs.declared.Stretch.{Stretch}
 use Rattle.stretch.specs.Flat.{levelOf}
 use Rattle.blitter.specs.declared.Blitter.{Blitter}
-use Rattle.blitter.specs.State.{soundBlitter}
+use Rattle.blitter.specs.State.{soundBlitter, withWork, withNote}
 use Rattle.engine.specs.declared.Place.{Place}
 use Rattle.engine.specs.Tick.{ended}
 use Rattle.engine.specs.Run.{runFor, progress}
@@ -94,7 +94,7 @@ abbrev pub leftAt : Blitter → ℕ → ℕ → ℕ → Blitter
 leftAt b row col code =
     cond (leb (rowsOf (b .block)) row)
     (ended b code)
-    (record { irqe = b .irqe; irqf = b .irqf; list = b .list; flags = b .flags; code = code; block = b .block; row = row; col = col })
+    (withWork (b .flags) (b .block) row col (withNote code b))
 
 -- what a burst is handed: a busy blitter, and budget left
 pub record BurstFrom (b : Blitter) (mem : List ℕ) (ticks accesses budget : ℕ) : Type 0 where

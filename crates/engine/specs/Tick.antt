@@ -1,54 +1,27 @@
 -- Document 01, "The blitter": a tick. What it makes of the state, of memory, and how many accesses it counts are three definitions.
-use mathlib.Core.Bool.{Bool, true, false, cond}
+use mathlib.Core.Bool.{true, cond}
 use mathlib.Core.List.{List}
 use Prim.Native.Nat.{ℕ, _+_, _%_}
 use lib.Dec.{eqb, ltb}
 use Rattle.block.specs.Block.{blockAt, noBlock, columnsOf, rowsOf, nextOf}
 use Rattle.block.specs.Byte.{written, struckAt}
 use Rattle.blitter.specs.declared.Blitter.{Blitter}
+use Rattle.blitter.specs.State.{withWork, withList, withNote, withInterrupt}
 
 -- "A load tick (flags 1) reads the 21 bytes of the block .. from the list address on; adds 21 to it; sets flags to 2 (BUSY), row and column to 0"
 unfoldable pub loadTick : Blitter → List ℕ → Blitter
-loadTick b mem =
-    record {
-      irqe = b .irqe;
-      irqf = b .irqf;
-      list = (b .list + 21) % 524288;
-      flags = 2;
-      code = b .code;
-      block = blockAt mem (b .list);
-      row = 0;
-      col = 0;
-    }
+loadTick b mem = withWork 2 (blockAt mem (b .list)) 0 0 (withList ((b .list + 21) % 524288) b)
 
 -- the same block at another position, with another collision code
 abbrev pub busyAt : Blitter → ℕ → ℕ → ℕ → Blitter
-busyAt b row col code =
-    record {
-      irqe = b .irqe;
-      irqf = b .irqf;
-      list = b .list;
-      flags = 2;
-      code = code;
-      block = b .block;
-      row = row;
-      col = col;
-    }
+busyAt b row col code = withWork 2 (b .block) row col (withNote code b)
 
 -- "After the last byte, in that same tick: block and position go to 0; with NEXT (bit 3) flags become 1; else flags 0, and IRQF = 1 if IRQE"
 unfoldable pub ended : Blitter → ℕ → Blitter
 ended b code =
     let next = nextOf (b .block) in
-    record {
-      irqe = b .irqe;
-      irqf = cond next (b .irqf) (cond (b .irqe) true (b .irqf));
-      list = b .list;
-      flags = cond next 1 0;
-      code = code;
-      block = noBlock;
-      row = 0;
-      col = 0;
-    }
+    let irqf = cond next (b .irqf) (cond (b .irqe) true (b .irqf)) in
+    withInterrupt (b .irqe) irqf (withWork (cond next 1 0) noBlock 0 0 (withNote code b))
 
 -- "Columns run 0..W·ZX−1 inside rows 0..H·ZY−1": the next column, else the next row, else the end
 unfoldable pub movedOn : Blitter → ℕ → Blitter

@@ -1,7 +1,7 @@
 -- Laws of a stretch of bytes.
-mod Strokes
+pub mod Strokes
 mod Single
-mod Places
+pub mod Places
 mod Levels
 mod Painting
 mod Passing
