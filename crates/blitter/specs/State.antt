@@ -1,5 +1,5 @@
 -- Document 01, "The blitter": the state between two ticks, which states are sound, and what START, stop and reset make of it.
-use mathlib.Core.Bool.{Bool, true, false, cond, _&&_}
+use mathlib.Core.Bool.{Bool, false, cond, _&&_}
 use Prim.Native.Nat.{ℕ}
 use lib.Dec.{eqb, ltb, leb}
 use Rattle.block.specs.Block.{isNone, noBlock, columnsOf, rowsOf}

@@ -1,6 +1,6 @@
 ghost use mathlib.Core.Path.{_≡_};
 ghost use Prim.Native.Nat.{_≤_};
-ghost use Rattle.block.specs.Block.{sideAt, blockAt, noneSide, isNone, noBlock, widthOf, heightOf, zoomX, zoomY, patternOf, columnsOf, rowsOf, modeOf, nextOf, destAddress, sourceAddress};
+ghost use Rattle.block.specs.Block.{sideAt, blockAt, noneSide, isNone, noBlock, widthOf, zoomX, zoomY, patternOf, columnsOf, rowsOf, modeOf, nextOf, destAddress, sourceAddress};
 ghost use Rattle.block.specs.Byte.{readsSource};
 use step::Side;
 

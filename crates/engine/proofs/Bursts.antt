@@ -2,7 +2,7 @@
 use mathlib.Core.Path.{_≡_, refl, sym, ap, subst, _∙_}
 use mathlib.Core.Bool.{Bool, true, false, cond}
 use mathlib.Core.List.{List}
-use mathlib.Core.Logic.{_⊎_, inl, inr, ⊎-elim}
+use mathlib.Core.Logic.{inl, inr, ⊎-elim}
 use Prim.Native.Nat.{ℕ, zero, suc, _+_, _-_, _*_, _≤_, _<_}
 use native.Mathlib.Nat.{add-zero}
 use native.Mathlib.Omega.{arith}
@@ -20,9 +20,9 @@ use Rattle.stretch.specs.Stretch.{Trace, trace, struck, strokes, traceOf}
 use Rattle.blitter.specs.declared.Blitter.{Blitter}
 use Rattle.blitter.specs.State.{withWork, withNote}
 use Rattle.engine.specs.Tick.{busyAt, ended, movedOn, byteTick, tickBlitter, tickMemory, tickCount}
-use Rattle.engine.specs.Run.{Progress, ticked, runFor, progress}
+use Rattle.engine.specs.Run.{ticked, runFor, progress}
 use Rattle.engine.specs.Engine.{BurstFrom, BurstTo, Column, Row, Reach, tallOf, sourceStep, destStep, aheadRow, aheadCol, stretchAt}
-use Rattle.blitter.proofs.Sound.{Inside, Sound, sound-test, first-inside}
+use Rattle.blitter.proofs.Sound.{Inside, sound-test, first-inside}
 use Rattle.engine.proofs.Tick.{busy-sound, ended-sound}
 use Rattle.engine.proofs.Runs.{run-tick}
 use Rattle.engine.proofs.Strokes.{struck-at, strokes-last, strokes-from, strokes-few}

@@ -4,8 +4,8 @@ use mathlib.Core.List.{List}
 use Prim.Native.Nat.{ℕ, _+_, _<_}
 use native.Mathlib.Omega.{arith}
 use lib.Dec.{eqb, ltb}
-use lib.ListN.{getD}
 use Rattle.laws.proofs.Choice.{by-cond}
+use Rattle.vram.specs.Memory.{Bytes}
 use Rattle.block.specs.Block.{noSide, noBlock, columnsOf, rowsOf}
 use Rattle.block.specs.Byte.{written}
 use Rattle.block.proofs.Byte.{code-byte, written-bytes}
@@ -22,8 +22,9 @@ pub record Held (b : Blitter) : Type 0 where
   pub block-in : BlockBytes (b .block)
   pub code-in : b .code < 256
 
-pub record Bytes (b : Blitter) (mem : List ℕ) : Type 0 where
-  pub cells : (i : ℕ) → getD mem i 0 < 256
+-- and with it memory
+pub record InBytes (b : Blitter) (mem : List ℕ) : Type 0 where
+  pub cells : Bytes mem
   pub held : Held b
 
 none-side : SideBytes noSide
@@ -54,11 +55,11 @@ advanced-held b code k c =
     (λ _. by-cond Held (ltb (b .row + 1) (rowsOf (b .block))) _ _ (λ _. record { block-in = k; code-in = c })
     (λ _. record { block-in = none-bytes; code-in = c }))
 
-pub tick-bytes : (b : Blitter) (mem : List ℕ) → Bytes b mem → Bytes (tickBlitter b mem) (tickMemory b mem)
+pub tick-bytes : (b : Blitter) (mem : List ℕ) → InBytes b mem → InBytes (tickBlitter b mem) (tickMemory b mem)
 unfolding tickBlitter tickMemory
 tick-bytes b mem h = by (eqb (b .flags) 0) (eqb (b .flags) 1)
   where
-    by : (t u : Bool) → Bytes (cond t b (cond u (loadTick b mem) (byteTick b mem))) (cond t mem (cond u mem (written (b .block) (b .row) (b .col) mem)))
+    by : (t u : Bool) → InBytes (cond t b (cond u (loadTick b mem) (byteTick b mem))) (cond t mem (cond u mem (written (b .block) (b .row) (b .col) mem)))
     by true u = h
     by false true = unfold loadTick in record { cells = h .cells; held = record { block-in = block-bytes mem (b .list) (h .cells); code-in = h .held .code-in } }
     by false false =
@@ -68,8 +69,8 @@ tick-bytes b mem h = by (eqb (b .flags) 0) (eqb (b .flags) 1)
           held = advanced-held b _ k (code-byte (b .block) _ _ mem (h .cells) (b .code) (h .held .code-in));
         }
 
-pub after-bytes : (n : ℕ) (s : Machine) → Bytes (s .blitter) (s .mem) → Bytes (after n s .blitter) (after n s .mem)
-after-bytes n s = after-keeps (λ (q : Machine). Bytes (q .blitter) (q .mem)) (λ q h. unfold tock in tick-bytes (q .blitter) (q .mem) h) n s
+pub after-bytes : (n : ℕ) (s : Machine) → InBytes (s .blitter) (s .mem) → InBytes (after n s .blitter) (after n s .mem)
+after-bytes n s = after-keeps (λ (q : Machine). InBytes (q .blitter) (q .mem)) (λ q h. unfold tock in tick-bytes (q .blitter) (q .mem) h) n s
 
-pub run-bytes : (n : ℕ) (r : Progress) → Bytes (r .blitter) (r .mem) → Bytes (runFor n r .blitter) (runFor n r .mem)
-run-bytes n r = run-keeps (λ (q : Progress). Bytes (q .blitter) (q .mem)) (λ q h. unfold ticked in tick-bytes (q .blitter) (q .mem) h) n r
+pub run-bytes : (n : ℕ) (r : Progress) → InBytes (r .blitter) (r .mem) → InBytes (runFor n r .blitter) (runFor n r .mem)
+run-bytes n r = run-keeps (λ (q : Progress). InBytes (q .blitter) (q .mem)) (λ q h. unfold ticked in tick-bytes (q .blitter) (q .mem) h) n r

@@ -2,7 +2,7 @@
 use mathlib.Core.Path.{_≡_, refl, sym, ap, _∙_}
 use mathlib.Core.Bool.{true}
 use mathlib.Core.List.{List}
-use Prim.Native.Nat.{ℕ, zero, suc, _+_, _-_, _*_, _≤_, _<_}
+use Prim.Native.Nat.{ℕ, _+_, _-_, _*_, _≤_, _<_}
 use native.Mathlib.Omega.{arith}
 use lib.ListN.{length}
 use borrow.Author.Tests.{eq-eqb, ne-eqb}
@@ -10,9 +10,9 @@ use Rattle.vram.specs.Memory.{goodLength}
 use Rattle.blitter.specs.declared.Blitter.{Blitter}
 use Rattle.blitter.specs.State.{soundBlitter}
 use Rattle.engine.specs.Tick.{loadTick, tickBlitter, tickMemory, tickCount}
-use Rattle.engine.specs.Run.{Progress, ticked, runFor, progress, begun}
+use Rattle.engine.specs.Run.{ticked, runFor, progress, begun}
 use Rattle.engine.specs.Engine.{BurstFrom, BurstTo}
-use Rattle.blitter.proofs.Sound.{Sound, sound-facts, sound-test}
+use Rattle.blitter.proofs.Sound.{sound-facts, sound-test}
 use Rattle.engine.proofs.Tick.{load-sound}
 use Rattle.engine.proofs.Runs.{run-idle, run-tick}
 use Rattle.engine.proofs.Bursts.{less}

@@ -1,13 +1,13 @@
 -- How far a place's stretch reaches, and the place k bytes on. Assumes nothing.
 use mathlib.Core.Path.{_≡_, refl, sym, ap, subst, _∙_}
-use mathlib.Core.Bool.{Bool, true, false, cond, _&&_}
-use mathlib.Core.Logic.{_⊎_, inl, inr, ⊎-elim}
-use Prim.Native.Nat.{ℕ, zero, suc, _+_, _-_, _*_, _/_, _%_, _≤_, _<_}
+use mathlib.Core.Bool.{true, false}
+use mathlib.Core.Logic.{inl, inr, ⊎-elim}
+use Prim.Native.Nat.{ℕ, _+_, _-_, _/_, _%_, _≤_, _<_}
 use native.Mathlib.Nat.{mod-lt, mod-one, div-one}
 use native.Mathlib.Omega.{arith}
 use lib.Dec.{eqb}
 use borrow.Author.Tests.{eqb-true, lt-ltb, le-ltb}
-use Rattle.laws.proofs.Choice.{both}
+use Rattle.laws.proofs.Choice.{both, true-false}
 use Rattle.block.specs.Block.{zoomX, zoomY, patternOf, columnsOf, rowsOf}
 use Rattle.block.specs.declared.Block.{Block}
 use Rattle.block.proofs.Place.{far-col}
@@ -16,9 +16,6 @@ use Rattle.blitter.proofs.Sound.{Inside}
 use Rattle.engine.specs.declared.Place.{Place}
 use Rattle.engine.specs.Engine.{placeAt, Placed, Column, Row, Reach, tallOf, aheadRow, aheadCol, afterRow, afterCol}
 use Rattle.engine.proofs.Following.{down-is, across-is, sourcerow-is, sourcecol-is}
-
-true-false : {A : Type 0} → true ≡ false → A
-true-false e = absurd (let z : _≡_ {A = ℕ} 1 0 = ap (λ (t : Bool). cond t 1 0) e in omega arith)
 
 module _ (b : Block) (p : Place) (q : Placed b p) where
   zoom-x-pos : 0 < zoomX b

@@ -1,16 +1,12 @@
 -- Laws of a run: one tick more, an idle blitter, soundness, memory's length and the counts. Assumes nothing.
-use mathlib.Core.Path.{_≡_, refl, sym, ap, _∙_}
-use mathlib.Core.Bool.{Bool, true, false, cond}
-use mathlib.Core.List.{List}
-use Prim.Native.Nat.{ℕ, zero, suc, _+_, _-_, _*_, _≤_, _<_}
+use mathlib.Core.Path.{_≡_, refl, _∙_}
+use Prim.Native.Nat.{ℕ, zero, suc, _*_, _≤_}
 use native.Mathlib.Omega.{arith}
 use lib.Dec.{eqb}
 use lib.ListN.{length}
 use borrow.Author.Tests.{eq-eqb, ne-eqb}
 use Rattle.laws.proofs.Choice.{by-cond}
-use Rattle.blitter.specs.declared.Blitter.{Blitter}
-use Rattle.engine.specs.Run.{Progress, ticked, onward, runFor, progress}
-use Rattle.engine.specs.Tick.{tickBlitter, tickMemory, tickCount}
+use Rattle.engine.specs.Run.{Progress, ticked, onward, runFor}
 use Rattle.blitter.proofs.Sound.{Sound}
 use Rattle.engine.proofs.Tick.{tick-sound, tick-length, tick-small}
 

@@ -1,8 +1,8 @@
 -- Inside a stretch each byte's addresses are a step further than the last one's. Assumes nothing.
-use mathlib.Core.Path.{_≡_, refl, sym, ap, _∙_}
-use mathlib.Core.Bool.{Bool, true, false, cond, _&&_}
-use mathlib.Core.Logic.{_⊎_, inl, inr, ⊎-elim}
-use Prim.Native.Nat.{ℕ, zero, suc, _+_, _*_, _/_, _%_, _≤_, _<_}
+use mathlib.Core.Path.{_≡_, refl}
+use mathlib.Core.Bool.{Bool, true, false, cond}
+use mathlib.Core.Logic.{⊎-elim}
+use Prim.Native.Nat.{ℕ, suc, _+_, _*_, _/_, _%_, _<_}
 use native.Mathlib.Nat.{mul-zero, div-one}
 use native.Mathlib.Omega.{arith}
 use lib.Dec.{eqb}
@@ -10,7 +10,7 @@ use borrow.Author.Tests.{eqb-true, eqb-false}
 use Rattle.laws.proofs.Choice.{by-cond, both}
 use Rattle.step.specs.Step.{sideAddress, acrossOf, downOf}
 use Rattle.step.proofs.Further.{side-19, across-on, down-on}
-use Rattle.block.specs.Block.{zoomX, zoomY, patternOf, columnsOf, rowsOf, destAddress, sourceAddress}
+use Rattle.block.specs.Block.{zoomX, zoomY, patternOf, columnsOf, destAddress, sourceAddress}
 use Rattle.block.specs.declared.Block.{Block}
 use Rattle.block.proofs.Place.{far-col}
 use Rattle.block.proofs.Sizes.{pattern-pos}

@@ -308,7 +308,7 @@ fn leave(mut blitter: Blitter, place: Place, code: u8, ticks: u32, accesses: u32
 }
 
 // The byte ticks of one block whose stretches are flat, each up to a wrap. Its loops stand apart from those of
-// `burst_each`, or the compiler runs out of registers in both.
+// `burst_each`, so that blocks that are not flat keep the loop they had (measured: docs/SPEED.md).
 fn burst_flat(blitter: Blitter, mem: &mut [u8], ticks: u32, accesses: u32, budget: u32) -> Sofar
     requires { ⌜ BurstFrom blitter (now mem) ticks accesses budget × (levelBlock (blitter .block) ≡ true) ⌝ }
     ensures { λ r. ⌜ BurstTo blitter (now (mem .entry)) ticks accesses budget (r .blitter) (now (mem .exit)) (r .ticks) (r .accesses) ⌝ }

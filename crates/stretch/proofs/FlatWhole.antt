@@ -1,6 +1,6 @@
 -- A whole flat stretch, by the places of its bytes, in each kind of loop. Assumes nothing.
 use mathlib.Core.Path.{_≡_, refl, sym, ap, _∙_}
-use mathlib.Core.Bool.{Bool, true, false, cond, _||_}
+use mathlib.Core.Bool.{Bool, true, false, _||_}
 use mathlib.Core.List.{List}
 use Prim.Native.Nat.{ℕ, _+_, _*_, _≤_, _<_}
 use native.Mathlib.Nat.{zero-add}
@@ -9,6 +9,7 @@ use lib.Bits.{bitAnd, bitXor}
 use lib.Dec.{eqb, leb, ltb}
 use lib.ListN.{length, getD}
 use borrow.Author.Tests.{eqb-true, eqb-false, lt-leb, le-ltb}
+use Rattle.laws.proofs.Choice.{true-false}
 use Rattle.vram.specs.Memory.{goodLength, place}
 use Rattle.block.specs.Block.{modeOf}
 use Rattle.block.specs.Byte.{readsSource}
@@ -27,10 +28,7 @@ unread-0 b z = rw z
 
 -- a place apart from those written is none of them
 none-of : (i at count : ℕ) → (ltb i at || leb (at + count) i) ≡ true → (k : ℕ) → k < count → i ≡ at + k → ⊥
-none-of i at count t k h e = absurd (clash (rw (le-ltb i at (omega arith), lt-leb (at + count) i (omega arith)) at t))
-  where
-    clash : false ≡ true → ⊥
-    clash f = let z : _≡_ {A = ℕ} 0 1 = ap (λ (x : Bool). cond x 1 0) f in omega arith
+none-of i at count t k h e = true-false (sym (rw (le-ltb i at (omega arith), lt-leb (at + count) i (omega arith)) at t))
 
 module _ (b : Block) (s : Stretch) (mem : List ℕ) (g : goodLength (length mem) ≡ true) (f : Flat (length mem) b s) (at : ℕ) (p : at ≡ place (length mem) (s .to)) where
   abbrev L : ℕ

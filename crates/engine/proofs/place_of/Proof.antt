@@ -1,7 +1,7 @@
 -- `engine::place_of` meets its contract. Assumes nothing.
 use native.Mathlib.Nat.{mod-le, div-le-self}
 use native.Mathlib.Omega.{arith}
-use Prim.Native.Nat.{_/_, _%_}
+use Prim.Native.Nat.{_/_}
 use Rattle.block.proofs.Sizes.{pattern-pos}
 use borrow.Author.Needs.{needs}
 use Rattle.engine.proofs.place_of.Statement.{statement}
