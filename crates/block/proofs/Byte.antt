@@ -13,8 +13,10 @@ use Rattle.mode.proofs.Laws.{value-small, code-small, accesses-small}
 use Rattle.mode.specs.Mode.{writesIn, strokeOf}
 use Rattle.block.specs.Fold.{each}
 use Rattle.block.specs.Block.{modeOf, destAddress, sourceAddress}
-use Rattle.block.specs.Byte.{readsSource, sourceBy, sourceByte, strokeBy, writtenBy, written, struckBy, struckAt, rowAt, colAt, destOf, sourceOf, blockMem, blockCode}
+use Rattle.block.specs.Byte.{readsSource, sourceBy, sourceByte, strokeBy, writtenBy, written, struckBy, struckAt, rowAt, colAt, destOf, sourceOf, blockMem, blockNote}
 use Rattle.block.specs.declared.Block.{Block}
+use Rattle.block.specs.declared.Note.{Note}
+use Rattle.block.proofs.Bytes.{NoteBytes}
 use Rattle.block.proofs.Fold.{each-keeps}
 
 -- a place depends on the length alone, and so do a destination's and a source's
@@ -59,9 +61,9 @@ module _ (b : Block) (from to : ℕ) (mem : List ℕ) where
       (λ _. refl)
 
   -- a byte tick has at most 3 accesses
-  pub struck-small : (code : ℕ) → struckBy b mem from to code .accesses ≤ 3
+  pub struck-small : (note : Note) → struckBy b mem from to note .accesses ≤ 3
   unfolding struckBy strokeBy strokeOf
-  struck-small code =
+  struck-small note =
       let read = by-cond (λ (v : ℕ). v ≤ 1) (readsSource b) 1 0 (λ _. omega arith) (λ _. omega arith) in
       omega (arith, accesses-small (modeOf b) (b .hitmask) (sourceBy b mem from))
 
@@ -70,10 +72,6 @@ module _ (b : Block) (from to : ℕ) (mem : List ℕ) where
     unfolding sourceBy
     source-byte h k = xor-lt 8 _ (b .xormask) (and-lt 8 _ (b .andmask) (by-cond (λ (v : ℕ). v < 256) (readsSource b) _ 0 (λ _. bytes _) (λ _. omega arith)) h) k
 
-    pub code-byte : (code : ℕ) → code < 256 → struckBy b mem from to code .code < 256
-    unfolding struckBy strokeBy strokeOf
-    code-byte code h = code-small (modeOf b) (b .hitmask) _ (cellAt mem to) code (bytes _) h
-
     -- memory stays one of bytes
     pub written-bytes : b .andmask < 256 → b .xormask < 256 → Bytes (writtenBy b from to mem)
     unfolding writtenBy
@@ -81,6 +79,11 @@ module _ (b : Block) (from to : ℕ) (mem : List ℕ) where
         by-cond (λ (m : List ℕ). getD m i 0 < 256) (writesIn (modeOf b) (sourceBy b mem from)) _ mem
         (λ _. set-byte mem (place (length mem) to) _ i bytes (value-small (modeOf b) _ (cellAt mem to) (source-byte h k) (bytes _)))
         (λ _. bytes i)
+
+    -- and the note one of bytes
+    pub note-bytes : (note : Note) → NoteBytes note → NoteBytes (struckBy b mem from to note .note)
+    unfolding struckBy strokeBy strokeOf
+    note-bytes note h = record { code = code-small (modeOf b) (b .hitmask) _ (cellAt mem to) (note .code) (bytes _) (h .code) }
 
 -- the first k bytes
 module _ (b : Block) (mem : List ℕ) where
@@ -92,13 +95,13 @@ module _ (b : Block) (mem : List ℕ) where
   unfolding blockMem each
   block-next k = refl
 
-  pub code-none : (code : ℕ) → blockCode b 0 mem code ≡ code
-  unfolding blockCode each
-  code-none code = refl
+  pub note-none : (note : Note) → blockNote b 0 mem note ≡ note
+  unfolding blockNote each
+  note-none note = refl
 
-  pub code-next : (k code : ℕ) → blockCode b (suc k) mem code ≡ struckAt b (blockMem b k mem) (rowAt b k) (colAt b k) (blockCode b k mem code) .code
-  unfolding blockCode each
-  code-next k code = refl
+  pub note-next : (k : ℕ) (note : Note) → blockNote b (suc k) mem note ≡ struckAt b (blockMem b k mem) (rowAt b k) (colAt b k) (blockNote b k mem note) .note
+  unfolding blockNote each
+  note-next k note = refl
 
   pub block-length : (k : ℕ) → length (blockMem b k mem) ≡ length mem
   unfolding blockMem

@@ -6,7 +6,9 @@ use native.Mathlib.Omega.{arith}
 use Rattle.vram.specs.Memory.{Bytes, byteAt}
 use Rattle.step.specs.declared.Side.{Side}
 use Rattle.block.specs.Block.{sideAt, blockAt}
+use Rattle.block.specs.Byte.{newNote}
 use Rattle.block.specs.declared.Block.{Block}
+use Rattle.block.specs.declared.Note.{Note}
 
 -- two memories, or two addresses, that agree on the 21 bytes give the same block
 module _ (x y : List ℕ) (a b : ℕ) (same : (j : ℕ) → j < 21 → byteAt x a j ≡ byteAt y b j) where
@@ -62,6 +64,13 @@ pub record BlockBytes (b : Block) : Type 0 where
   pub zoom : b .zoom < 256
   pub pattern : b .pattern < 256
   pub control : b .control < 256
+
+-- and so is a note's
+pub record NoteBytes (n : Note) : Type 0 where
+  pub code : n .code < 256
+
+pub new-note-bytes : NoteBytes newNote
+new-note-bytes = record { code = omega arith }
 
 module _ (mem : List ℕ) (list : ℕ) (bytes : Bytes mem) where
   side-bytes : (k : ℕ) → SideBytes (sideAt mem list k)
