@@ -1,4 +1,4 @@
--- Bytes stay bytes over a tick, over n ticks and over a run: memory's, the block's and the code. Assumes nothing.
+-- Bytes stay bytes over a tick, over n ticks and over a run: memory's, the block's and the note's. Assumes nothing.
 use mathlib.Core.Bool.{Bool, true, false, cond}
 use mathlib.Core.List.{List}
 use Prim.Native.Nat.{ℕ, _+_, _<_}
@@ -8,8 +8,9 @@ use Rattle.laws.proofs.Choice.{by-cond}
 use Rattle.vram.specs.Memory.{Bytes}
 use Rattle.block.specs.Block.{noSide, noBlock, columnsOf, rowsOf}
 use Rattle.block.specs.Byte.{written}
-use Rattle.block.proofs.Byte.{code-byte, written-bytes}
-use Rattle.block.proofs.Bytes.{SideBytes, BlockBytes, block-bytes}
+use Rattle.block.specs.declared.Note.{Note}
+use Rattle.block.proofs.Byte.{note-bytes, written-bytes}
+use Rattle.block.proofs.Bytes.{SideBytes, BlockBytes, NoteBytes, block-bytes}
 use Rattle.blitter.specs.declared.Blitter.{Blitter}
 use Rattle.engine.specs.Tick.{loadTick, ended, movedOn, byteTick, tickBlitter, tickMemory}
 use Rattle.engine.specs.Run.{Progress, ticked, runFor}
@@ -20,7 +21,7 @@ use Rattle.engine.proofs.Machine.{after-keeps}
 -- what a blitter holds in bytes
 pub record Held (b : Blitter) : Type 0 where
   pub block-in : BlockBytes (b .block)
-  pub code-in : b .code < 256
+  pub note-in : NoteBytes (b .note)
 
 -- and with it memory
 pub record InBytes (b : Blitter) (mem : List ℕ) : Type 0 where
@@ -48,12 +49,12 @@ none-bytes =
       control = omega arith;
     }
 
-advanced-held : (b : Blitter) (code : ℕ) → BlockBytes (b .block) → code < 256 → Held (movedOn b code)
+advanced-held : (b : Blitter) (note : Note) → BlockBytes (b .block) → NoteBytes note → Held (movedOn b note)
 unfolding movedOn ended
-advanced-held b code k c =
-    by-cond Held (ltb (b .col + 1) (columnsOf (b .block))) _ _ (λ _. record { block-in = k; code-in = c })
-    (λ _. by-cond Held (ltb (b .row + 1) (rowsOf (b .block))) _ _ (λ _. record { block-in = k; code-in = c })
-    (λ _. record { block-in = none-bytes; code-in = c }))
+advanced-held b note k c =
+    by-cond Held (ltb (b .col + 1) (columnsOf (b .block))) _ _ (λ _. record { block-in = k; note-in = c })
+    (λ _. by-cond Held (ltb (b .row + 1) (rowsOf (b .block))) _ _ (λ _. record { block-in = k; note-in = c })
+    (λ _. record { block-in = none-bytes; note-in = c }))
 
 pub tick-bytes : (b : Blitter) (mem : List ℕ) → InBytes b mem → InBytes (tickBlitter b mem) (tickMemory b mem)
 unfolding tickBlitter tickMemory
@@ -61,12 +62,12 @@ tick-bytes b mem h = by (eqb (b .flags) 0) (eqb (b .flags) 1)
   where
     by : (t u : Bool) → InBytes (cond t b (cond u (loadTick b mem) (byteTick b mem))) (cond t mem (cond u mem (written (b .block) (b .row) (b .col) mem)))
     by true u = h
-    by false true = unfold loadTick in record { cells = h .cells; held = record { block-in = block-bytes mem (b .list) (h .cells); code-in = h .held .code-in } }
+    by false true = unfold loadTick in record { cells = h .cells; held = record { block-in = block-bytes mem (b .list) (h .cells); note-in = h .held .note-in } }
     by false false =
         let k = h .held .block-in in
         unfold byteTick in record {
           cells = written-bytes (b .block) _ _ mem (h .cells) (k .andmask) (k .xormask);
-          held = advanced-held b _ k (code-byte (b .block) _ _ mem (h .cells) (b .code) (h .held .code-in));
+          held = advanced-held b _ k (note-bytes (b .block) _ _ mem (h .cells) (b .note) (h .held .note-in));
         }
 
 pub after-bytes : (n : ℕ) (s : Machine) → InBytes (s .blitter) (s .mem) → InBytes (after n s .blitter) (after n s .mem)

@@ -10,6 +10,7 @@ use borrow.Author.Tests.{ltb-true, ltb-false, leb-true, leb-false, lt-ltb}
 use Rattle.laws.proofs.Choice.{by-cond, both, and-both}
 use Rattle.vram.specs.Memory.{goodLength}
 use Rattle.block.specs.Block.{columnsOf, rowsOf}
+use Rattle.block.specs.declared.Note.{Note}
 use Rattle.stretch.specs.Stretch.{Trace, traceOf}
 use Rattle.stretch.specs.declared.Stretch.{Stretch}
 use Rattle.stretch.specs.Flat.{flatCount, firstOf}
@@ -20,14 +21,14 @@ use Rattle.engine.specs.Tick.{ended}
 use Rattle.engine.specs.Engine.{BurstFrom, BurstTo, Reach, aheadRow, aheadCol, afterRow, afterCol, levelBlock, stretchAt, leftAt}
 use Rattle.engine.proofs.Bursts.{Bursting, burst-start, burst-used, reach-less, stretch-few, last-in, stretch-col, stretch-row, stretch-end}
 
-pub record Turned (b : Blitter) (first : List ℕ) (ticks accesses budget : ℕ) (mem : List ℕ) (row col code done made : ℕ) : Type 0 where
-  pub going : row < rowsOf (b .block) → Bursting b first ticks accesses budget mem row col code done made
-  pub ending : rowsOf (b .block) ≤ row → BurstTo b first ticks accesses budget (ended b code) mem done made
+pub record Turned (b : Blitter) (first : List ℕ) (ticks accesses budget : ℕ) (mem : List ℕ) (row col : ℕ) (note : Note) (done made : ℕ) : Type 0 where
+  pub going : row < rowsOf (b .block) → Bursting b first ticks accesses budget mem row col note done made
+  pub ending : rowsOf (b .block) ≤ row → BurstTo b first ticks accesses budget (ended b note) mem done made
   pub row-in : row ≤ rowsOf (b .block)
   pub col-in : col < columnsOf (b .block)
 
 module _ {b : Blitter} {first : List ℕ} {ticks accesses budget : ℕ} where
-  pub turned-start : BurstFrom b first ticks accesses budget → Turned b first ticks accesses budget first (b .row) (b .col) (b .code) ticks accesses
+  pub turned-start : BurstFrom b first ticks accesses budget → Turned b first ticks accesses budget first (b .row) (b .col) (b .note) ticks accesses
   turned-start f =
       record {
         going = λ _. burst-start f;
@@ -37,31 +38,31 @@ module _ {b : Blitter} {first : List ℕ} {ticks accesses budget : ℕ} where
       }
 
   -- the budget is used, or the block has ended
-  pub turned-left : {mem : List ℕ} {row col code done made rows : ℕ} → Turned b first ticks accesses budget mem row col code done made → rows ≡ rowsOf (b .block)
-      → (ltb row rows && ltb done budget) ≡ false → BurstTo b first ticks accesses budget (leftAt b row col code) mem done made
-  turned-left {mem} {row} {col} {code} {done} {made} {rows} g e t =
+  pub turned-left : {mem : List ℕ} {row col : ℕ} {note : Note} {done made rows : ℕ} → Turned b first ticks accesses budget mem row col note done made → rows ≡ rowsOf (b .block)
+      → (ltb row rows && ltb done budget) ≡ false → BurstTo b first ticks accesses budget (leftAt b row col note) mem done made
+  turned-left {mem} {row} {col} {note} {done} {made} {rows} g e t =
       by-cond (λ (x : Blitter). BurstTo b first ticks accesses budget x mem done made) (leb (rowsOf (b .block)) row) _ _
       (λ behind. g .ending (leb-true (rowsOf (b .block)) row behind))
       (λ before. let h : row < rowsOf (b .block) = leb-false (rowsOf (b .block)) row before in burst-used (g .going h) (ltb-false done budget (rw (lt-ltb row rows (omega (arith, h))) at t)))
 
 -- behind a whole stretch: d is what is drawn
-module _ (b : Blitter) (first : List ℕ) (ticks accesses budget : ℕ) {mem : List ℕ} {row col code done made : ℕ} (g : Bursting b first ticks accesses budget mem row col code done made)
+module _ (b : Blitter) (first : List ℕ) (ticks accesses budget : ℕ) {mem : List ℕ} {row col : ℕ} {note : Note} {done made : ℕ} (g : Bursting b first ticks accesses budget mem row col note done made)
     (count : ℕ) (some : 0 < count) (r : Reach (b .block) row col count) (room : done + count ≤ budget)
-    (d : Trace) (e : d ≡ traceOf (b .block) (stretchAt (b .block) row col count) mem code) where
+    (d : Trace) (e : d ≡ traceOf (b .block) (stretchAt (b .block) row col count) mem note) where
   abbrev lastRow : ℕ
   lastRow = aheadRow (b .block) row (count - 1)
 
   abbrev lastCol : ℕ
   lastCol = aheadCol (b .block) col (count - 1)
 
-  pub turned-on : Turned b first ticks accesses budget (d .mem) (afterRow (b .block) row col count) (afterCol (b .block) col count) (d .code) (done + count) (made + d .accesses)
+  pub turned-on : Turned b first ticks accesses budget (d .mem) (afterRow (b .block) row col count) (afterCol (b .block) col count) (d .note) (done + count) (made + d .accesses)
   turned-on = by-test (ltb (lastCol + 1) (columnsOf (b .block))) refl
     where
       inside : Inside (b .block) lastRow lastCol
       inside = last-in b first ticks accesses budget g count some r room d e
 
       by-test : (t : Bool) → ltb (lastCol + 1) (columnsOf (b .block)) ≡ t
-          → Turned b first ticks accesses budget (d .mem) (cond t lastRow (lastRow + 1)) (cond t (lastCol + 1) 0) (d .code) (done + count) (made + d .accesses)
+          → Turned b first ticks accesses budget (d .mem) (cond t lastRow (lastRow + 1)) (cond t (lastCol + 1) 0) (d .note) (done + count) (made + d .accesses)
       by-test true t =
           let h = ltb-true (lastCol + 1) (columnsOf (b .block)) t in
           record {
@@ -80,27 +81,27 @@ module _ (b : Blitter) (first : List ℕ) (ticks accesses budget : ℕ) {mem : L
           }
 
 -- a part of a stretch, drawn at once: of most bytes count are, and d is what they make
-pub record AtOnce (b : Blitter) (first : List ℕ) (ticks accesses budget : ℕ) (mem : List ℕ) (row col code done made most count : ℕ) (d : Trace) : Type 0 where
-  pub going : Bursting b first ticks accesses budget mem row col code done made
+pub record AtOnce (b : Blitter) (first : List ℕ) (ticks accesses budget : ℕ) (mem : List ℕ) (row col : ℕ) (note : Note) (done made most count : ℕ) (d : Trace) : Type 0 where
+  pub going : Bursting b first ticks accesses budget mem row col note done made
   pub level : levelBlock (b .block) ≡ true
   pub some : 0 < most
   pub reached : Reach (b .block) row col most
   pub room : most ≤ budget - done
   pub part : count ≡ flatCount (length mem) (b .block) (stretchAt (b .block) row col most)
-  pub drawn-is : d ≡ traceOf (b .block) (stretchAt (b .block) row col count) mem code
+  pub drawn-is : d ≡ traceOf (b .block) (stretchAt (b .block) row col count) mem note
 
 -- as the program comes to it
-module _ {b : Blitter} {first : List ℕ} {ticks accesses budget : ℕ} {mem : List ℕ} {row col code done made rows : ℕ} (t : Turned b first ticks accesses budget mem row col code done made)
+module _ {b : Blitter} {first : List ℕ} {ticks accesses budget : ℕ} {mem : List ℕ} {row col : ℕ} {note : Note} {done made rows : ℕ} (t : Turned b first ticks accesses budget mem row col note done made)
     (e : rows ≡ rowsOf (b .block)) (test : (ltb row rows && ltb done budget) ≡ true) where
   pub turned-room : done < budget
   turned-room = ltb-true done budget (both (ltb row rows) (ltb done budget) test .1)
 
-  pub turned-going : Bursting b first ticks accesses budget mem row col code done made
+  pub turned-going : Bursting b first ticks accesses budget mem row col note done made
   turned-going = t .going (omega (arith, ltb-true row rows (both (ltb row rows) (ltb done budget) test .0)))
 
   pub at-once : levelBlock (b .block) ≡ true → {reached most : ℕ} → Reach (b .block) row col reached → (0 < most) × (most ≤ reached) × (most ≤ budget - done)
-      → {bytes : Stretch} → bytes ≡ stretchAt (b .block) row col most → {count : ℕ} {d : Trace} → count ≡ flatCount (length mem) (b .block) bytes → d ≡ traceOf (b .block) (firstOf bytes count) mem code
-      → AtOnce b first ticks accesses budget mem row col code done made most count d
+      → {bytes : Stretch} → bytes ≡ stretchAt (b .block) row col most → {count : ℕ} {d : Trace} → count ≡ flatCount (length mem) (b .block) bytes → d ≡ traceOf (b .block) (firstOf bytes count) mem note
+      → AtOnce b first ticks accesses budget mem row col note done made most count d
   at-once l {reached} {most} r (some, few, room) {bytes} s {count} c i =
       record {
         going = turned-going;
@@ -109,11 +110,11 @@ module _ {b : Blitter} {first : List ℕ} {ticks accesses budget : ℕ} {mem : L
         reached = reach-less (b .block) row col reached most few r;
         room = room;
         part = c ∙ ap (flatCount (length mem) (b .block)) s;
-        drawn-is = i ∙ ap (λ (x : Stretch). traceOf (b .block) (firstOf x count) mem code) s;
+        drawn-is = i ∙ ap (λ (x : Stretch). traceOf (b .block) (firstOf x count) mem note) s;
       }
 
-module _ {b : Blitter} {first : List ℕ} {ticks accesses budget : ℕ} {mem : List ℕ} {row col code done made most count : ℕ} {d : Trace}
-    (o : AtOnce b first ticks accesses budget mem row col code done made most count d) where
+module _ {b : Blitter} {first : List ℕ} {ticks accesses budget : ℕ} {mem : List ℕ} {row col : ℕ} {note : Note} {done made most count : ℕ} {d : Trace}
+    (o : AtOnce b first ticks accesses budget mem row col note done made most count d) where
   tests : (goodLength (length mem) && levelBlock (b .block)) ≡ true
   tests = and-both (goodLength (length mem)) (levelBlock (b .block)) (ap goodLength (o .going .long) ∙ o .going .from .board) (o .level)
 
@@ -132,5 +133,5 @@ module _ {b : Blitter} {first : List ℕ} {ticks accesses budget : ℕ} {mem : L
   pub once-accesses : d .accesses ≤ 3 * count
   once-accesses = stretch-few b first ticks accesses budget (o .going) count once-some once-reach once-room d (o .drawn-is)
 
-  pub once-turned : Turned b first ticks accesses budget (d .mem) (afterRow (b .block) row col count) (afterCol (b .block) col count) (d .code) (done + count) (made + d .accesses)
+  pub once-turned : Turned b first ticks accesses budget (d .mem) (afterRow (b .block) row col count) (afterCol (b .block) col count) (d .note) (done + count) (made + d .accesses)
   once-turned = turned-on b first ticks accesses budget (o .going) count once-some once-reach once-room d (o .drawn-is)

@@ -9,6 +9,7 @@ use Rattle.vram.specs.Memory.{place}
 use Rattle.block.specs.Block.{destAddress, sourceAddress}
 use Rattle.block.specs.Byte.{writtenBy, struckBy}
 use Rattle.block.specs.declared.Block.{Block}
+use Rattle.block.specs.declared.Note.{Note}
 use Rattle.stretch.specs.Stretch.{Trace, trace, struck, strokes}
 use Rattle.stretch.proofs.Strokes.{struck-few}
 use Rattle.stretch.proofs.Places.{same-byte}
@@ -35,15 +36,15 @@ module _ (b : Block) (along step : ℕ) where
       e ∙ (λ i. struck b (further from n along i) (further to n step i) (strokes b along step n (from + along) (to + step) (struck b from to d)))
 
   -- accesses counted from a number
-  pub strokes-from : (n from to : ℕ) (mem : List ℕ) (code made more : ℕ)
-      → let d = strokes b along step n from to (trace mem code more) in
-      strokes b along step n from to (trace mem code (made + more)) ≡ trace (d .mem) (d .code) (made + d .accesses)
+  pub strokes-from : (n from to : ℕ) (mem : List ℕ) (note : Note) (made more : ℕ)
+      → let d = strokes b along step n from to (trace mem note more) in
+      strokes b along step n from to (trace mem note (made + more)) ≡ trace (d .mem) (d .note) (made + d .accesses)
   unfolding strokes struck
-  strokes-from zero from to mem code made more = refl
-  strokes-from (suc n) from to mem code made more =
-      let byte = struckBy b mem from to code in
-      ap (λ (a : ℕ). strokes b along step n (from + along) (to + step) (trace (writtenBy b from to mem) (byte .code) a)) (add-assoc made more (byte .accesses))
-      ∙ strokes-from n (from + along) (to + step) _ (byte .code) made (more + byte .accesses)
+  strokes-from zero from to mem note made more = refl
+  strokes-from (suc n) from to mem note made more =
+      let byte = struckBy b mem from to note in
+      ap (λ (a : ℕ). strokes b along step n (from + along) (to + step) (trace (writtenBy b from to mem) (byte .note) a)) (add-assoc made more (byte .accesses))
+      ∙ strokes-from n (from + along) (to + step) _ (byte .note) made (more + byte .accesses)
 
   -- at most 3 each
   pub strokes-few : (n from to : ℕ) (d : Trace) → strokes b along step n from to d .accesses ≤ d .accesses + 3 * n

@@ -3,6 +3,7 @@ use mathlib.Core.List.{List}
 use Prim.Native.Nat.{ℕ, zero, suc, _+_, _%_}
 use Rattle.block.specs.Byte.{rowAt, colAt}
 use Rattle.block.specs.declared.Block.{Block}
+use Rattle.block.specs.declared.Note.{Note}
 use Rattle.blitter.specs.declared.Blitter.{Blitter}
 use Rattle.blitter.specs.State.{withWork, withList}
 use Rattle.engine.specs.Tick.{busyAt, tickBlitter, tickMemory}
@@ -28,5 +29,5 @@ unfoldable pub holding : Block → Blitter → Blitter
 holding k b = withWork 2 k 0 0 (withList ((b .list + 21) % 524288) b)
 
 -- busy with the n-th byte of its block
-abbrev pub busyOn : Blitter → ℕ → ℕ → Blitter
-busyOn b code n = busyAt b (rowAt (b .block) n) (colAt (b .block) n) code
+abbrev pub busyOn : Blitter → Note → ℕ → Blitter
+busyOn b note n = busyAt b (rowAt (b .block) n) (colAt (b .block) n) note

@@ -11,11 +11,11 @@ use Rattle.engine.proofs.burst_flat.Statement.{statement}
 use Rattle.engine.proofs.burst_flat.Tie as tie
 
 abbrev Inv-loop : tie.InvT-loop
-Inv-loop blitter mem₀ ticks accesses budget block rows place₀ code₀ done₀ made₀ mem place code done made =
-    Turned blitter mem₀ ticks accesses budget mem (place .row) (place .col) code done made × (place ≡ placeAt (blitter .block) (place .row) (place .col))
+Inv-loop blitter mem₀ ticks accesses budget block rows place₀ note₀ done₀ made₀ mem place note done made =
+    Turned blitter mem₀ ticks accesses budget mem (place .row) (place .col) note done made × (place ≡ placeAt (blitter .block) (place .row) (place .col))
 
 abbrev μ-loop : tie.MeasureT-loop
-μ-loop blitter mem₀ ticks accesses budget block rows place₀ code₀ done₀ made₀ mem place code done made =
+μ-loop blitter mem₀ ticks accesses budget block rows place₀ note₀ done₀ made₀ mem place note done made =
     budget - done
 
 height-in : (a : tie.Start Inv-loop μ-loop) → a .args .blitter .block .height < 256
@@ -30,7 +30,7 @@ once :
     → let l = c .before .before .before .before .before .before .before .loop in
     let a = c .before .before .before .before .before .before .before .before .before .before .before .before .args in
     let r = c .draw .result in
-    AtOnce (a .blitter) (a .mem .now) (a .ticks) (a .accesses) (a .budget) (l .mem) (l .place .row) (l .place .col) (l .code) (l .done) (l .made) (c .before .before .before .least .result) (r .count) (trace (c .draw .last .1 .0) (r .code) (r .accesses))
+    AtOnce (a .blitter) (a .mem .now) (a .ticks) (a .accesses) (a .budget) (l .mem) (l .place .row) (l .place .col) (l .note) (l .done) (l .made) (c .before .before .before .least .result) (r .count) (trace (c .draw .last .1 .0) (r .note) (r .accesses))
 once c =
     let d = c .draw .ensures in
     let bytes = c .before .before .stretch .ensures in

@@ -18,7 +18,7 @@ level-requires c κs = search needs
 returns : tie.Need-returns
 returns c =
     let a = c .before .before .before .before .args in
-    (none-drawn _ _ _ (rw (sym (c .before .before .good-length .ensures), sym (c .before .level .ensures)) (not-true _ (c .if1 .taken))), by-nothing (a .block) (a .stretch) (a .mem .now) (a .code))
+    (none-drawn _ _ _ (rw (sym (c .before .before .good-length .ensures), sym (c .before .level .ensures)) (not-true _ (c .if1 .taken))), by-nothing (a .block) (a .stretch) (a .mem .now) (a .note))
 
 before-wrap-requires : tie.Need-before-wrap-requires
 before-wrap-requires c κs = sym (c .before .before .good-length .ensures) ∙ both _ _ (not-false _ (c .if1 .left)) .0
