@@ -163,11 +163,7 @@ fn code_in(mode: u8, mask: u8, s: u8, d: u8, code: u8) -> u8
 {
     match mode {
         0 => code,
-        1 => code_by(32, mask, s, d, code),
-        2 => code_by(32, mask, s, d, code),
-        3 => code_by(32, mask, s, d, code),
-        4 => code_by(32, mask, s, d, code),
-        5 => code_by(32, mask, s, d, code),
+        1 | 2 | 3 | 4 | 5 => code_by(32, mask, s, d, code),
         6 => code_nibbles(mask, s, d, code),
         _ => code,
     }

@@ -1,19 +1,32 @@
--- `stretch::blend` meets its contract: the loop goes on as `Going` says. Assumes nothing.
+-- `stretch::blend` meets its contract: the loop goes on as `Walk` says. Assumes nothing.
 use Prim.Native.Nat.{_-_}
 use native.Mathlib.Omega.{arith}
 use borrow.Author.Needs.{needs}
-use Rattle.stretch.proofs.Strokes.{stroke-small, both-small, Going, Reached, reach, reached-on, reached-fits, start, fit, made-fits, count-fits, on, done}
-use Rattle.stretch.proofs.Single.{stroke-is}
+use Rattle.stretch.proofs.Strokes.{stroke-small, both-small, fit, done}
+use Rattle.stretch.proofs.Walking.{Walk, walk, walk-made, walk-from, walk-to, walk-k, walk-stroke}
 use Rattle.stretch.proofs.blend.Statement.{statement}
 use Rattle.stretch.proofs.blend.Tie as tie
 
 abbrev Inv-loop : tie.InvT-loop
-Inv-loop block mem₀ code₀ mode along step count from₀ to₀ made₀ k₀ mem code from to made k =
-    Going block along step count from₀ to₀ mem₀ code₀ mem from to code made k × Reached along from k × Reached step to k
+Inv-loop block mem₀ note₀ mode along step count from₀ to₀ made₀ k₀ mem note from to made k =
+    Walk block along step count from₀ to₀ mem₀ note₀ mem from to note made k
 
 abbrev μ-loop : tie.MeasureT-loop
-μ-loop block mem₀ code₀ mode along step count from₀ to₀ made₀ k₀ mem code from to made k =
+μ-loop block mem₀ note₀ mode along step count from₀ to₀ made₀ k₀ mem note from to made k =
     count - k
+
+-- a turn of the loop, when its stroke is settled
+abbrev Turn : Type 0
+Turn = tie.After-struct-known6 Inv-loop μ-loop
+
+abbrev at-loop : Turn → tie.At-loop Inv-loop μ-loop
+at-loop c = c .before .before .before .before .before .before .before .before .before .before .before .before
+
+abbrev in-loop : Turn → tie.In-loop Inv-loop μ-loop
+in-loop c = c .before .before .before .before .before .before .before .before .before .before .before
+
+abbrev entry : Turn → tie.Start Inv-loop μ-loop
+entry c = at-loop c .before .before .before .before .before .before .before .before
 
 mode-requires : tie.Need-mode-requires Inv-loop μ-loop
 mode-requires c κs = tt
@@ -34,46 +47,53 @@ cast-to : tie.Need-cast-to Inv-loop μ-loop
 cast-to c = search needs
 
 loop-holds : tie.Need-loop-holds Inv-loop μ-loop
-loop-holds c = (start (c .before .before .before .before .before .before .before .pre .0) (omega (arith, c .before .before .before .before .struct-known .given .1 .1 .1 .1)), reach (omega (arith, c .before .before .before .before .struct-known .given .1 .0)) (omega (arith, c .before .before .before .before .struct-known .given .0)), reach (omega (arith, c .before .before .before .before .struct-known .given .1 .1 .1 .0)) (omega (arith, c .before .before .before .before .struct-known .given .1 .1 .0)))
+loop-holds c =
+    let begin = c .before .before .before .before .before .before .before in
+    walk (begin .args .block) (begin .args .stretch) _ _ (begin .pre .0) (c .struct-known5 .given)
 
 source-requires : tie.Need-source-requires Inv-loop μ-loop
-source-requires c κs = fit (c .before .before .loop .inv .0)
+source-requires c κs = fit (c .before .before .loop .inv .going)
 
 cell-requires : tie.Need-cell-requires Inv-loop μ-loop
-cell-requires c κs = fit (c .before .before .before .before .loop .inv .0)
+cell-requires c κs = fit (c .before .before .before .before .loop .inv .going)
 
 stroke-of-requires : tie.Need-stroke-of-requires Inv-loop μ-loop
 stroke-of-requires c κs = tt
 
 settle-requires : tie.Need-settle-requires Inv-loop μ-loop
-settle-requires c κs = (fit (c .before .before .before .before .before .before .before .loop .inv .0), stroke-small _ _ _ _ _ _ (c .before .stroke-of .ensures))
+settle-requires c κs = (fit (c .before .before .before .before .before .before .before .loop .inv .going), stroke-small _ _ _ _ _ _ (c .before .stroke-of .ensures))
 
 cast-made : tie.Need-cast-made Inv-loop μ-loop
 cast-made c = search needs
 
 add-made : tie.Need-add-made Inv-loop μ-loop
-add-made c = record { fits = made-fits (c .before .before .before .before .before .before .before .before .before .before .before .loop .inv .0) (c .before .before .before .before .before .before .before .before .before .before .loop-test .taken) (both-small (c .before .before .before .before .before .before .before .before .before .before .before .before .before .before .before .before .before .before .before .args .block) _ _ _ _ _ _ _ (c .before .before .before .before .before .stroke-of .ensures) (c .before .before .before .settle .ensures .0)) }
+add-made c =
+    walk-made (at-loop c .loop .inv) (in-loop c .loop-test .taken)
+    (both-small (entry c .args .block) _ _ _ _ _ _ _ (c .before .before .before .before .before .before .stroke-of .ensures) (c .before .before .before .before .settle .ensures .0))
 
 add-from : tie.Need-add-from Inv-loop μ-loop
-add-from c = record { fits = reached-fits (c .before .before .before .before .before .before .before .before .before .before .before .loop .inv .1) (count-fits (c .before .before .before .before .before .before .before .before .before .before .before .loop .inv .0) (c .before .before .before .before .before .before .before .before .before .before .loop-test .taken)) }
+add-from c = walk-from (at-loop c .loop .inv) (in-loop c .loop-test .taken)
 
 add-to : tie.Need-add-to Inv-loop μ-loop
-add-to c = record { fits = reached-fits (c .before .before .before .before .before .before .before .before .before .before .before .loop .inv .2) (count-fits (c .before .before .before .before .before .before .before .before .before .before .before .loop .inv .0) (c .before .before .before .before .before .before .before .before .before .before .loop-test .taken)) }
+add-to c = walk-to (at-loop c .loop .inv) (in-loop c .loop-test .taken)
 
 add-k : tie.Need-add-k Inv-loop μ-loop
-add-k c = record { fits = omega (arith, count-fits (c .before .before .before .before .before .before .before .before .before .before .before .loop .inv .0) (c .before .before .before .before .before .before .before .before .before .before .loop-test .taken)) }
+add-k c = walk-k (at-loop c .loop .inv) (in-loop c .loop-test .taken)
 
 loop-less : tie.Need-loop-less Inv-loop μ-loop
-loop-less c = omega (arith, c .before .before .before .before .before .before .before .before .before .before .loop-test .taken)
+loop-less c = omega (arith, in-loop c .loop-test .taken)
 
 loop-again : tie.Need-loop-again Inv-loop μ-loop
-loop-again c = (on (c .before .before .before .before .before .before .before .before .before .before .before .loop .inv .0) (c .before .before .before .before .before .before .before .before .before .before .loop-test .taken) (stroke-is _ _ _ _ _ _ (c .before .before .before .before .before .before .before .before .before .before .before .before .before .before .before .before .before .mode .ensures) (c .before .before .before .before .before .before .before .before .before .before .before .before .before .before .before .before .before .before .before .pre .1) (c .before .before .before .before .before .before .before .before .source .ensures) (c .before .before .before .before .before .before .cell .ensures) (c .before .before .before .before .before .stroke-of .ensures) (c .before .before .before .settle .ensures .0) (c .before .before .before .settle .ensures .1)), reached-on (c .before .before .before .before .before .before .before .before .before .before .before .loop .inv .1), reached-on (c .before .before .before .before .before .before .before .before .before .before .before .loop .inv .2))
+loop-again c =
+    walk-stroke (at-loop c .loop .inv) (in-loop c .loop-test .taken) (c .before .before .before .before .before .before .before .before .before .before .before .before .before .before .before .before .before .before .mode .ensures) (entry c .pre .1)
+    (c .before .before .before .before .before .before .before .before .before .source .ensures) (c .before .before .before .before .before .before .before .cell .ensures)
+    (c .before .before .before .before .before .before .stroke-of .ensures) (c .before .before .before .before .settle .ensures .0) (c .before .before .before .before .settle .ensures .1)
 
 same-length : tie.Need-same-length Inv-loop μ-loop
-same-length c = c .before .loop .inv .0 .long
+same-length c = c .before .loop .inv .going .long
 
 returns : tie.Need-returns Inv-loop μ-loop
-returns c = done (c .before .loop .inv .0) (c .loop-test .left)
+returns c = done (c .before .loop .inv .going) (c .loop-test .left)
 
 pub blend-spec : {M : Type 1} → statement M
 blend-spec =

@@ -1,19 +1,33 @@
--- `stretch::copy` meets its contract: the loop goes on as `Going` says. Assumes nothing.
+-- `stretch::copy` meets its contract: the loop goes on as `Walk` says. Assumes nothing.
 use Prim.Native.Nat.{_-_}
 use native.Mathlib.Omega.{arith}
 use borrow.Author.Needs.{needs}
-use Rattle.stretch.proofs.Strokes.{Going, Reached, reach, reached-on, reached-fits, start, fit, made-fits, count-fits, on, done}
+use Rattle.stretch.proofs.Strokes.{fit, done}
+use Rattle.stretch.proofs.Walking.{Walk, walk, walk-made, walk-from, walk-to, walk-k, walk-on}
 use Rattle.stretch.proofs.Single.{copy-is}
 use Rattle.stretch.proofs.copy.Statement.{statement}
 use Rattle.stretch.proofs.copy.Tie as tie
 
 abbrev Inv-loop : tie.InvT-loop
-Inv-loop block mem₀ code along step count from₀ to₀ made₀ k₀ mem from to made k =
-    Going block along step count from₀ to₀ mem₀ code mem from to code made k × Reached along from k × Reached step to k
+Inv-loop block mem₀ note along step count from₀ to₀ made₀ k₀ mem from to made k =
+    Walk block along step count from₀ to₀ mem₀ note mem from to note made k
 
 abbrev μ-loop : tie.MeasureT-loop
-μ-loop block mem₀ code along step count from₀ to₀ made₀ k₀ mem from to made k =
+μ-loop block mem₀ note along step count from₀ to₀ made₀ k₀ mem from to made k =
     count - k
+
+-- a turn of the loop, when its byte is put
+abbrev Turn : Type 0
+Turn = tie.After-slice-known2 Inv-loop μ-loop
+
+abbrev at-loop : Turn → tie.At-loop Inv-loop μ-loop
+at-loop c = c .before .before .before .before .before .before .before
+
+abbrev in-loop : Turn → tie.In-loop Inv-loop μ-loop
+in-loop c = c .before .before .before .before .before .before
+
+abbrev entry : Turn → tie.Start Inv-loop μ-loop
+entry c = at-loop c .before .before .before .before .before .before .before
 
 cast-along : tie.Need-cast-along Inv-loop μ-loop
 cast-along c = search needs
@@ -31,37 +45,41 @@ cast-to : tie.Need-cast-to Inv-loop μ-loop
 cast-to c = search needs
 
 loop-holds : tie.Need-loop-holds Inv-loop μ-loop
-loop-holds c = (start (c .before .before .before .before .before .before .pre .0) (omega (arith, c .before .before .before .before .struct-known .given .1 .1 .1 .1)), reach (omega (arith, c .before .before .before .before .struct-known .given .1 .0)) (omega (arith, c .before .before .before .before .struct-known .given .0)), reach (omega (arith, c .before .before .before .before .struct-known .given .1 .1 .1 .0)) (omega (arith, c .before .before .before .before .struct-known .given .1 .1 .0)))
+loop-holds c =
+    let begin = c .before .before .before .before .before .before in
+    walk (begin .args .block) (begin .args .stretch) _ _ (begin .pre .0) (c .struct-known5 .given)
 
 source-requires : tie.Need-source-requires Inv-loop μ-loop
-source-requires c κs = fit (c .before .before .loop .inv .0)
+source-requires c κs = fit (c .before .before .loop .inv .going)
 
 put-requires : tie.Need-put-requires Inv-loop μ-loop
-put-requires c κs = fit (c .before .before .before .before .loop .inv .0)
+put-requires c κs = fit (c .before .before .before .before .loop .inv .going)
 
 add-made : tie.Need-add-made Inv-loop μ-loop
-add-made c = record { fits = made-fits (c .before .before .before .before .before .before .before .loop .inv .0) (c .before .before .before .before .before .before .loop-test .taken) (omega arith) }
+add-made c = walk-made (at-loop c .loop .inv) (in-loop c .loop-test .taken) (omega arith)
 
 add-from : tie.Need-add-from Inv-loop μ-loop
-add-from c = record { fits = reached-fits (c .before .before .before .before .before .before .before .loop .inv .1) (count-fits (c .before .before .before .before .before .before .before .loop .inv .0) (c .before .before .before .before .before .before .loop-test .taken)) }
+add-from c = walk-from (at-loop c .loop .inv) (in-loop c .loop-test .taken)
 
 add-to : tie.Need-add-to Inv-loop μ-loop
-add-to c = record { fits = reached-fits (c .before .before .before .before .before .before .before .loop .inv .2) (count-fits (c .before .before .before .before .before .before .before .loop .inv .0) (c .before .before .before .before .before .before .loop-test .taken)) }
+add-to c = walk-to (at-loop c .loop .inv) (in-loop c .loop-test .taken)
 
 add-k : tie.Need-add-k Inv-loop μ-loop
-add-k c = record { fits = omega (arith, count-fits (c .before .before .before .before .before .before .before .loop .inv .0) (c .before .before .before .before .before .before .loop-test .taken)) }
+add-k c = walk-k (at-loop c .loop .inv) (in-loop c .loop-test .taken)
 
 loop-less : tie.Need-loop-less Inv-loop μ-loop
-loop-less c = omega (arith, c .before .before .before .before .before .before .loop-test .taken)
+loop-less c = omega (arith, in-loop c .loop-test .taken)
 
 loop-again : tie.Need-loop-again Inv-loop μ-loop
-loop-again c = rw (c .before .before .put .ensures, c .before .before .before .before .source .ensures) (on (c .before .before .before .before .before .before .before .loop .inv .0) (c .before .before .before .before .before .before .loop-test .taken) (copy-is _ _ _ _ _ _ (c .before .before .before .before .before .before .before .before .before .before .before .before .before .before .pre .1) (c .before .before .before .before .before .before .before .before .before .before .before .before .before .before .pre .2)), reached-on (c .before .before .before .before .before .before .before .loop .inv .1), reached-on (c .before .before .before .before .before .before .before .loop .inv .2))
+loop-again c =
+    rw (c .before .before .put .ensures, c .before .before .before .before .source .ensures)
+    (walk-on (at-loop c .loop .inv) (in-loop c .loop-test .taken) (copy-is _ _ _ _ _ _ (entry c .pre .1) (entry c .pre .2)))
 
 same-length : tie.Need-same-length Inv-loop μ-loop
-same-length c = c .before .loop .inv .0 .long
+same-length c = c .before .loop .inv .going .long
 
 returns : tie.Need-returns Inv-loop μ-loop
-returns c = done (c .before .loop .inv .0) (c .loop-test .left)
+returns c = done (c .before .loop .inv .going) (c .loop-test .left)
 
 pub copy-spec : {M : Type 1} → statement M
 copy-spec =
