@@ -18,25 +18,37 @@ abbrev μ-loop : tie.MeasureT-loop
 μ-loop blitter mem₀ ticks accesses budget block rows place₀ note₀ done₀ made₀ mem place note done made =
     budget - done
 
+-- the function's entry, from its loop
+abbrev entry : tie.At-loop Inv-loop μ-loop → tie.Start Inv-loop μ-loop
+entry l = l .before .before .before .before .before .before
+
+-- before it the rows were counted
+abbrev counted : tie.At-loop Inv-loop μ-loop → tie.After-rows Inv-loop μ-loop
+counted l = l .before .before .before
+
 height-in : (a : tie.Start Inv-loop μ-loop) → a .args .blitter .block .height < 256
 height-in a = omega arith
 
 width-in : (a : tie.Start Inv-loop μ-loop) → a .args .blitter .block .width0 < 256
 width-in a = omega arith
 
+-- the loop of a turn that draws
+abbrev turn : tie.After-draw Inv-loop μ-loop → tie.At-loop Inv-loop μ-loop
+turn c = c .before .before .before .before .before .before .before
+
 -- the stretch that this turn draws
 once :
     (c : tie.After-draw Inv-loop μ-loop)
-    → let l = c .before .before .before .before .before .before .before .loop in
-    let a = c .before .before .before .before .before .before .before .before .before .before .before .before .args in
+    → let l = turn c .loop in
+    let a = entry (turn c) .args in
     let r = c .draw .result in
     AtOnce (a .blitter) (a .mem .now) (a .ticks) (a .accesses) (a .budget) (l .mem) (l .place .row) (l .place .col) (l .note) (l .done) (l .made) (c .before .before .before .least .result) (r .count) (trace (c .draw .last .1 .0) (r .note) (r .accesses))
 once c =
     let d = c .draw .ensures in
     let bytes = c .before .before .stretch .ensures in
-    let rows = c .before .before .before .before .before .before .before .before .before .rows .ensures in
-    let level = c .before .before .before .before .before .before .before .before .before .before .before .before .pre .1 in
-    at-once (c .before .before .before .before .before .before .before .loop .inv .0) rows (c .before .before .before .before .before .if1 .taken) level (c .before .before .before .before .reach .ensures .1) (c .before .before .before .least .ensures) bytes (d .0) (d .1)
+    let rows = counted (turn c) .rows .ensures in
+    let level = entry (turn c) .pre .1 in
+    at-once (turn c .loop .inv .0) rows (c .before .before .before .before .before .if1 .taken) level (c .before .before .before .before .reach .ensures .1) (c .before .before .before .least .ensures) bytes (d .0) (d .1)
 
 rows-requires : tie.Need-rows-requires Inv-loop μ-loop
 rows-requires c κs = tt
@@ -48,66 +60,72 @@ place-of-requires : tie.Need-place-of-requires Inv-loop μ-loop
 place-of-requires c κs = tt
 
 loop-holds : tie.Need-loop-holds Inv-loop μ-loop
-loop-holds c = rw (c .place-of .ensures) (turned-start (c .before .before .before .before .pre .0), refl)
+loop-holds c = rw (c .before .place-of .ensures) (turned-start (c .before .before .before .before .before .pre .0), refl)
 
 reach-requires : tie.Need-reach-requires Inv-loop μ-loop
 reach-requires c κs =
-    let inv = c .before .before .loop .inv in
-    let g = turned-going (inv .0) (c .before .before .before .before .rows .ensures) (c .if1 .taken) in
-    record { at = inv .1; row-in = g .place .row-in; col-in = g .place .col-in }
+    let l = c .before .before in
+    let g = turned-going (l .loop .inv .0) (counted l .rows .ensures) (c .if1 .taken) in
+    record { at = l .loop .inv .1; row-in = g .place .row-in; col-in = g .place .col-in }
 
 sub-least : tie.Need-sub-least Inv-loop μ-loop
-sub-least c = omega (arith, turned-room (c .before .before .before .loop .inv .0) (c .before .before .before .before .before .rows .ensures) (c .before .if1 .taken))
+sub-least c =
+    let l = c .before .before .before in
+    omega (arith, turned-room (l .loop .inv .0) (counted l .rows .ensures) (c .before .if1 .taken))
 
 least-requires : tie.Need-least-requires Inv-loop μ-loop
-least-requires c κs = (c .reach .ensures .0, omega (arith, turned-room (c .before .before .before .loop .inv .0) (c .before .before .before .before .before .rows .ensures) (c .before .if1 .taken)))
+least-requires c κs =
+    let l = c .before .before .before in
+    (c .reach .ensures .0, omega (arith, turned-room (l .loop .inv .0) (counted l .rows .ensures) (c .before .if1 .taken)))
 
 stretch-requires : tie.Need-stretch-requires Inv-loop μ-loop
 stretch-requires c κs =
-    let start = c .before .before .before .before .before .before .before .before .before in
-    let inv = c .before .before .before .before .loop .inv in
-    let g = turned-going (inv .0) (c .before .before .before .before .before .before .rows .ensures) (c .before .before .if1 .taken) in
-    (record { at = inv .1; row-in = g .place .row-in; col-in = g .place .col-in }, omega (arith, c .least .ensures .1, reach-small _ _ _ _ (height-in start) (width-in start) (c .before .reach .ensures .1)))
+    let l = c .before .before .before .before in
+    let g = turned-going (l .loop .inv .0) (counted l .rows .ensures) (c .before .before .if1 .taken) in
+    (record { at = l .loop .inv .1; row-in = g .place .row-in; col-in = g .place .col-in }, omega (arith, c .least .ensures .1, reach-small _ _ _ _ (height-in (entry l)) (width-in (entry l)) (c .before .reach .ensures .1)))
 
 draw-requires : tie.Need-draw-requires Inv-loop μ-loop
 draw-requires c κs = tt
 
 add-made : tie.Need-add-made Inv-loop μ-loop
 add-made c =
-    let o = once (c .before .before .before) in
+    let o = once (c .before .before .before .before) in
     record { fits = omega (arith, o .going .counted, o .going .from .small, once-room o, once-accesses o) }
 
 add-done : tie.Need-add-done Inv-loop μ-loop
 add-done c =
-    let o = once (c .before .before .before .before) in
+    let o = once (c .before .before .before .before .before) in
     record { fits = omega (arith, o .going .from .small, once-room o) }
 
 after-requires : tie.Need-after-requires Inv-loop μ-loop
 after-requires c κs =
-    let o = once (c .before .before .before .before) in
-    (record { at = c .before .before .before .before .before .before .before .before .before .before .before .loop .inv .1; row-in = o .going .place .row-in; col-in = o .going .place .col-in }, once-some o, once-reach o)
+    let drawn = c .before .before .before .before .before in
+    let o = once drawn in
+    (record { at = turn drawn .loop .inv .1; row-in = o .going .place .row-in; col-in = o .going .place .col-in }, once-some o, once-reach o)
 
 loop-less : tie.Need-loop-less Inv-loop μ-loop
 loop-less c =
-    let o = once (c .before .before .before .before .before) in
+    let o = once (c .before .before .before .before .before .before) in
     omega (arith, once-some o, once-room o)
 
 loop-again : tie.Need-loop-again Inv-loop μ-loop
-loop-again c = rw (c .after .ensures) (once-turned (once (c .before .before .before .before .before)), refl)
+loop-again c = rw (c .after .ensures) (once-turned (once (c .before .before .before .before .before .before)), refl)
 
 leave-requires : tie.Need-leave-requires Inv-loop μ-loop
 leave-requires c κs =
-    let start = c .before .before .before .before .before .before .before in
-    let b = start .args .blitter .block in
-    (omega (arith, c .before .before .loop .inv .0 .row-in, rows-small b (height-in start)), omega (arith, c .before .before .loop .inv .0 .col-in, columns-small b (width-in start)))
+    let l = c .before .before in
+    let b = entry l .args .blitter .block in
+    (omega (arith, l .loop .inv .0 .row-in, rows-small b (height-in (entry l))), omega (arith, l .loop .inv .0 .col-in, columns-small b (width-in (entry l))))
 
 same-length : tie.Need-same-length Inv-loop μ-loop
-same-length c = turned-left (c .before .before .before .loop .inv .0) (c .before .before .before .before .before .rows .ensures) (c .before .if1 .left) .long
+same-length c =
+    let l = c .before .before .before in
+    turned-left (l .loop .inv .0) (counted l .rows .ensures) (c .before .if1 .left) .long
 
 returns : tie.Need-returns Inv-loop μ-loop
 returns c =
-    let l = c .leave .ensures in
-    rw (l .0, l .1, l .2) (turned-left (c .before .before .before .loop .inv .0) (c .before .before .before .before .before .rows .ensures) (c .before .if1 .left))
+    let l = c .before .before .before in
+    rw (c .leave .ensures .0, c .leave .ensures .1, c .leave .ensures .2) (turned-left (l .loop .inv .0) (counted l .rows .ensures) (c .before .if1 .left))
 
 pub burst-flat-spec : {M : Type 1} → statement M
 burst-flat-spec =
