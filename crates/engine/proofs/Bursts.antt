@@ -7,6 +7,8 @@ use Prim.Native.Nat.{ℕ, zero, suc, _+_, _-_, _*_, _≤_, _<_}
 use native.Mathlib.Nat.{add-zero}
 use native.Mathlib.Omega.{arith}
 use lib.ListN.{length}
+use mir.Syntax.{w32}
+use mir.Val.{Fits}
 use lib.Dec.{eqb}
 use borrow.Author.Tests.{eqb-true, lt-ltb, le-ltb}
 use Rattle.laws.proofs.Choice.{both}
@@ -17,12 +19,14 @@ use Rattle.block.specs.declared.Block.{Block}
 use Rattle.block.specs.declared.Note.{Note}
 use Rattle.block.specs.declared.Struck.{Struck}
 use Rattle.block.proofs.Byte.{written-length, struck-small}
+use Rattle.stretch.specs.declared.Stretch.{Stretch}
 use Rattle.stretch.specs.Stretch.{Trace, trace, struck, strokes, traceOf}
 use Rattle.blitter.specs.declared.Blitter.{Blitter}
 use Rattle.blitter.specs.State.{withWork, withNote}
+use Rattle.engine.specs.declared.Place.{Place}
 use Rattle.engine.specs.Tick.{busyAt, ended, movedOn, byteTick, tickBlitter, tickMemory, tickCount}
 use Rattle.engine.specs.Run.{ticked, runFor, progress}
-use Rattle.engine.specs.Engine.{BurstFrom, BurstTo, Column, Row, Reach, tallOf, sourceStep, destStep, aheadRow, aheadCol, stretchAt}
+use Rattle.engine.specs.Engine.{placeAt, Placed, BurstFrom, BurstTo, Column, Row, Reach, tallOf, sourceStep, destStep, aheadRow, aheadCol, stretchAt}
 use Rattle.blitter.proofs.Sound.{Inside, sound-test, first-inside}
 use Rattle.engine.proofs.Tick.{busy-sound, ended-sound}
 use Rattle.engine.proofs.Runs.{run-tick}
@@ -98,7 +102,8 @@ module _ {b : Blitter} {first : List ℕ} {ticks accesses budget : ℕ} where
       few-on = let few : byte .accesses ≤ 3 = struck-small (b .block) _ _ mem note in omega (arith, few, g .counted)
 
       -- the next column
-      turn-col : col + 1 < columnsOf (b .block) → Bursting b first ticks accesses budget (written (b .block) row col mem) row (col + 1) (struckAt (b .block) mem row col note .note) (done + 1) (made + struckAt (b .block) mem row col note .accesses)
+      turn-col : col + 1 < columnsOf (b .block)
+          → Bursting b first ticks accesses budget (written (b .block) row col mem) row (col + 1) (struckAt (b .block) mem row col note .note) (done + 1) (made + struckAt (b .block) mem row col note .accesses)
       unfolding byte movedOn
       turn-col k =
           record {
@@ -112,7 +117,8 @@ module _ {b : Blitter} {first : List ℕ} {ticks accesses budget : ℕ} where
           }
 
       -- the next row
-      turn-row : columnsOf (b .block) ≤ col + 1 → row + 1 < rowsOf (b .block) → Bursting b first ticks accesses budget (written (b .block) row col mem) (row + 1) 0 (struckAt (b .block) mem row col note .note) (done + 1) (made + struckAt (b .block) mem row col note .accesses)
+      turn-row : columnsOf (b .block) ≤ col + 1 → row + 1 < rowsOf (b .block)
+          → Bursting b first ticks accesses budget (written (b .block) row col mem) (row + 1) 0 (struckAt (b .block) mem row col note .note) (done + 1) (made + struckAt (b .block) mem row col note .accesses)
       unfolding byte movedOn
       turn-row k l =
           record {
@@ -126,7 +132,8 @@ module _ {b : Blitter} {first : List ℕ} {ticks accesses budget : ℕ} where
           }
 
       -- the block's end
-      turn-end : columnsOf (b .block) ≤ col + 1 → rowsOf (b .block) ≤ row + 1 → BurstTo b first ticks accesses budget (ended b (struckAt (b .block) mem row col note .note)) (written (b .block) row col mem) (done + 1) (made + struckAt (b .block) mem row col note .accesses)
+      turn-end : columnsOf (b .block) ≤ col + 1 → rowsOf (b .block) ≤ row + 1
+          → BurstTo b first ticks accesses budget (ended b (struckAt (b .block) mem row col note .note)) (written (b .block) row col mem) (done + 1) (made + struckAt (b .block) mem row col note .accesses)
       unfolding byte movedOn ended
       turn-end k l =
           record {
@@ -176,9 +183,13 @@ module _ (b : Blitter) (first : List ℕ) (ticks accesses budget : ℕ) where
     abbrev colOn : ℕ → ℕ
     colOn k = aheadCol (b .block) col k
 
-    one-more : (k : ℕ) → Reach (b .block) row col (suc k)
-        → trace (written (b .block) (rowOn k) (colOn k) (many k .mem)) (struckAt (b .block) (many k .mem) (rowOn k) (colOn k) (many k .note) .note) (many k .accesses + struckAt (b .block) (many k .mem) (rowOn k) (colOn k) (many k .note) .accesses)
-        ≡ many (suc k)
+    -- one byte more than those
+    abbrev oneOn : ℕ → Trace
+    oneOn k =
+        let u = struckAt (b .block) (many k .mem) (rowOn k) (colOn k) (many k .note) in
+        trace (written (b .block) (rowOn k) (colOn k) (many k .mem)) (u .note) (many k .accesses + u .accesses)
+
+    one-more : (k : ℕ) → Reach (b .block) row col (suc k) → oneOn k ≡ many (suc k)
     unfolding struck
     one-more k r =
         sym (strokes-last (b .block) (sourceStep (b .block)) (destStep (b .block)) k (sourceAddress (b .block) row col) (destAddress (b .block) row col) (trace mem note made)
@@ -214,59 +225,129 @@ module _ (b : Blitter) (first : List ℕ) (ticks accesses budget : ℕ) where
         let before : At (many k) (rowOn k) (colOn k) (done + k) = turns k (reach-less (b .block) row col (suc (suc k)) (suc k) (omega arith) r) (omega arith) in
         ⊎-elim (λ c. down k c h before) (λ c. along k c h before) r
 
-    -- a whole stretch: d is what is drawn
-    module _ (count : ℕ) (some : 0 < count) (r : Reach (b .block) row col count) (room : done + count ≤ budget)
-        (d : Trace) (e : d ≡ traceOf (b .block) (stretchAt (b .block) row col count) mem note) where
-      board-in : goodLength (length mem) ≡ true
-      board-in = ap goodLength (g .long) ∙ g .from .board
+-- one turn: so many bytes, in reach and within the budget, and d is what is drawn of them
+pub record Stretched (b : Blitter) (first : List ℕ) (ticks accesses budget : ℕ) (mem : List ℕ) (row col : ℕ) (note : Note) (done made count : ℕ) (d : Trace) : Type 0 where
+  pub going : Bursting b first ticks accesses budget mem row col note done made
+  pub some : 0 < count
+  pub reach : Reach (b .block) row col count
+  pub room : done + count ≤ budget
+  pub drew : d ≡ traceOf (b .block) (stretchAt (b .block) row col count) mem note
 
-      suc-is : suc (count - 1) ≡ count
-      suc-is = omega arith
+-- a place where a burst goes on
+pub placed-in : {b : Blitter} {first : List ℕ} {ticks accesses budget : ℕ} {mem : List ℕ} {p : Place} {note : Note} {done made : ℕ}
+    → Bursting b first ticks accesses budget mem (p .row) (p .col) note done made → p ≡ placeAt (b .block) (p .row) (p .col) → Placed (b .block) p
+placed-in g e = record { at = e; row-in = g .place .row-in; col-in = g .place .col-in }
 
-      last-reach : Reach (b .block) row col (suc (count - 1))
-      last-reach = reach-less (b .block) row col count (suc (count - 1)) (omega arith) r
+-- as the program comes to it: the least of what is in reach and what is left of the budget
+pub stretched :
+    {b : Blitter} {first : List ℕ} {ticks accesses budget : ℕ} {mem : List ℕ} {row col : ℕ} {note : Note} {done made : ℕ} → Bursting b first ticks accesses budget mem row col note done made
+    → {reached count : ℕ} → Reach (b .block) row col reached → (0 < count) × (count ≤ reached) × (count ≤ budget - done)
+    → {bytes : Stretch} → bytes ≡ stretchAt (b .block) row col count → {d : Trace} → d ≡ traceOf (b .block) bytes mem note
+    → Stretched b first ticks accesses budget mem row col note done made count d
+stretched {b} {mem = mem} {row} {col} {note} g {reached} {count} r (some, few, room) s e =
+    record {
+      going = g;
+      some = some;
+      reach = reach-less (b .block) row col reached count few r;
+      room = omega (arith, g .within);
+      drew = e ∙ ap (λ (x : Stretch). traceOf (b .block) x mem note) s;
+    }
 
-      -- what is made with it
-      abbrev sum : Trace
-      sum = trace (d .mem) (d .note) (made + d .accesses)
+module _ {b : Blitter} {first : List ℕ} {ticks accesses budget : ℕ} {mem : List ℕ} {row col : ℕ} {note : Note} {done made count : ℕ} {d : Trace}
+    (s : Stretched b first ticks accesses budget mem row col note done made count d) where
+  -- the burst where so many ticks are done
+  abbrev Now : Trace → ℕ → ℕ → ℕ → Type 0
+  Now e row′ col′ done′ = At b first ticks accesses budget e row′ col′ done′
 
-      whole : many (suc (count - 1)) ≡ sum
-      unfolding traceOf
-      whole =
-          ap (λ (n : ℕ). many n) suc-is
-          ∙ ap (λ (a : ℕ). strokes (b .block) (sourceStep (b .block)) (destStep (b .block)) count (sourceAddress (b .block) row col) (destAddress (b .block) row col) (trace mem note a)) (sym (add-zero made))
-          ∙ strokes-from (b .block) (sourceStep (b .block)) (destStep (b .block)) count (sourceAddress (b .block) row col) (destAddress (b .block) row col) mem note made 0
-          ∙ ap (λ (z : Trace). trace (z .mem) (z .note) (made + z .accesses)) (sym (e ∙ rw board-in refl))
+  abbrev after : ℕ → Trace
+  after k = many b first ticks accesses budget (s .going) k
 
-      -- its accesses are few
-      pub stretch-few : d .accesses ≤ 3 * count
-      unfolding traceOf
-      stretch-few =
-          rw (e, board-in)
-          (omega (arith, strokes-few (b .block) (sourceStep (b .block)) (destStep (b .block)) count (sourceAddress (b .block) row col) (destAddress (b .block) row col) (trace mem note 0)))
+  abbrev lastRow : ℕ
+  lastRow = aheadRow (b .block) row (count - 1)
 
-      last : At (many (count - 1)) (rowOn (count - 1)) (colOn (count - 1)) (done + (count - 1))
-      last = turns (count - 1) last-reach (omega arith)
+  abbrev lastCol : ℕ
+  lastCol = aheadCol (b .block) col (count - 1)
 
-      -- its last byte is inside the block
-      pub last-in : Inside (b .block) (rowOn (count - 1)) (colOn (count - 1))
-      last-in = last .place
+  board-in : goodLength (length mem) ≡ true
+  board-in = ap goodLength (s .going .long) ∙ s .going .from .board
 
-      all-done : done + (count - 1) + 1 ≡ done + count
-      all-done = omega arith
+  suc-is : suc (count - 1) ≡ count
+  suc-is = omega (arith, s .some)
 
-      -- then the next column
-      pub stretch-col : colOn (count - 1) + 1 < columnsOf (b .block) → At sum (rowOn (count - 1)) (colOn (count - 1) + 1) (done + count)
-      stretch-col h = moved _ sum _ _ _ _ _ (done + count) (one-more (count - 1) last-reach ∙ whole) refl refl all-done (turn-col last (omega arith) h)
+  last-reach : Reach (b .block) row col (suc (count - 1))
+  last-reach = reach-less (b .block) row col count (suc (count - 1)) (omega (arith, s .some)) (s .reach)
 
-      -- or the next row
-      pub stretch-row : columnsOf (b .block) ≤ colOn (count - 1) + 1 → rowOn (count - 1) + 1 < rowsOf (b .block) → At sum (rowOn (count - 1) + 1) 0 (done + count)
-      stretch-row h k = moved _ sum _ _ _ _ _ (done + count) (one-more (count - 1) last-reach ∙ whole) refl refl all-done (turn-row last (omega arith) h k)
+  -- what is made with it
+  abbrev sum : Trace
+  sum = trace (d .mem) (d .note) (made + d .accesses)
 
-      -- or the block's end
-      pub stretch-end : columnsOf (b .block) ≤ colOn (count - 1) + 1 → rowsOf (b .block) ≤ rowOn (count - 1) + 1
-          → BurstTo b first ticks accesses budget (ended b (d .note)) (d .mem) (done + count) (made + d .accesses)
-      stretch-end h k =
-          subst (λ (z : ℕ). BurstTo b first ticks accesses budget (ended b (d .note)) (d .mem) z (made + d .accesses)) all-done
-          (subst (λ (z : Trace). BurstTo b first ticks accesses budget (ended b (z .note)) (z .mem) (done + (count - 1) + 1) (z .accesses)) (one-more (count - 1) last-reach ∙ whole)
-          (turn-end last (omega arith) h k))
+  whole : after (suc (count - 1)) ≡ sum
+  unfolding traceOf
+  whole =
+      let from = sourceAddress (b .block) row col in
+      let to = destAddress (b .block) row col in
+      ap (λ (n : ℕ). after n) suc-is
+      ∙ ap (λ (a : ℕ). strokes (b .block) (sourceStep (b .block)) (destStep (b .block)) count from to (trace mem note a)) (sym (add-zero made))
+      ∙ strokes-from (b .block) (sourceStep (b .block)) (destStep (b .block)) count from to mem note made 0
+      ∙ ap (λ (z : Trace). trace (z .mem) (z .note) (made + z .accesses)) (sym (s .drew ∙ rw board-in refl))
+
+  -- its accesses are few
+  stretch-few : d .accesses ≤ 3 * count
+  unfolding traceOf
+  stretch-few =
+      rw (s .drew, board-in)
+      (omega (arith, strokes-few (b .block) (sourceStep (b .block)) (destStep (b .block)) count (sourceAddress (b .block) row col) (destAddress (b .block) row col) (trace mem note 0)))
+
+  -- so the counts fit
+  pub stretch-made : Fits w32 (made + d .accesses)
+  stretch-made = record { fits = omega (arith, s .going .counted, s .going .from .small, s .room, stretch-few) }
+
+  pub stretch-done : Fits w32 (done + count)
+  stretch-done = record { fits = omega (arith, s .going .from .small, s .room) }
+
+  last : Now (after (count - 1)) lastRow lastCol (done + (count - 1))
+  last = turns b first ticks accesses budget (s .going) (count - 1) last-reach (omega (arith, s .some, s .room))
+
+  -- its last byte is inside the block
+  pub last-in : Inside (b .block) lastRow lastCol
+  last-in = last .place
+
+  all-done : done + (count - 1) + 1 ≡ done + count
+  all-done = omega (arith, s .some)
+
+  all-drawn : oneOn b first ticks accesses budget (s .going) (count - 1) ≡ sum
+  all-drawn = one-more b first ticks accesses budget (s .going) (count - 1) last-reach ∙ whole
+
+  in-budget : done + (count - 1) < budget
+  in-budget = omega (arith, s .some, s .room)
+
+  -- then the next column
+  pub stretch-col : lastCol + 1 < columnsOf (b .block) → Now sum lastRow (lastCol + 1) (done + count)
+  stretch-col h = moved b first ticks accesses budget _ sum _ _ _ _ _ (done + count) all-drawn refl refl all-done (turn-col last in-budget h)
+
+  -- or the next row
+  pub stretch-row : columnsOf (b .block) ≤ lastCol + 1 → lastRow + 1 < rowsOf (b .block) → Now sum (lastRow + 1) 0 (done + count)
+  stretch-row h k = moved b first ticks accesses budget _ sum _ _ _ _ _ (done + count) all-drawn refl refl all-done (turn-row last in-budget h k)
+
+  -- or the block's end
+  pub stretch-end : columnsOf (b .block) ≤ lastCol + 1 → rowsOf (b .block) ≤ lastRow + 1 → BurstTo b first ticks accesses budget (ended b (d .note)) (d .mem) (done + count) (made + d .accesses)
+  stretch-end h k =
+      subst (λ (z : ℕ). BurstTo b first ticks accesses budget (ended b (d .note)) (d .mem) z (made + d .accesses)) all-done
+      (subst (λ (z : Trace). BurstTo b first ticks accesses budget (ended b (z .note)) (z .mem) (done + (count - 1) + 1) (z .accesses)) all-drawn
+      (turn-end last in-budget h k))
+
+  -- the same by the place of the last byte, and by a block's columns and rows as the program has them
+  module _ {l : Place} (e : l ≡ placeAt (b .block) lastRow lastCol) where
+    pub last-placed : Placed (b .block) l
+    last-placed = rw e (record { at = refl; row-in = last-in .row-in; col-in = last-in .col-in })
+
+    module _ {columns : ℕ} (c : columns ≡ columnsOf (b .block)) where
+      pub burst-col : l .col + 1 < columns → Now sum (l .row) (l .col + 1) (done + count)
+      burst-col h = rw e (stretch-col (omega (arith, ap (λ (p : Place). p .col) e)))
+
+      module _ {rows : ℕ} (r : rows ≡ rowsOf (b .block)) (h : columns ≤ l .col + 1) where
+        pub burst-row : l .row + 1 < rows → Now sum (l .row + 1) 0 (done + count)
+        burst-row k = rw e (stretch-row (omega (arith, ap (λ (p : Place). p .col) e)) (omega (arith, ap (λ (p : Place). p .row) e)))
+
+        pub burst-end : rows ≤ l .row + 1 → BurstTo b first ticks accesses budget (ended b (d .note)) (d .mem) (done + count) (made + d .accesses)
+        burst-end k = stretch-end (omega (arith, ap (λ (p : Place). p .col) e)) (omega (arith, ap (λ (p : Place). p .row) e))

@@ -1,7 +1,7 @@
 -- Bytes stay bytes over a tick, over n ticks and over a run: memory's, the block's and the note's. Assumes nothing.
 use mathlib.Core.Bool.{Bool, true, false, cond}
 use mathlib.Core.List.{List}
-use Prim.Native.Nat.{ℕ, _+_, _<_}
+use Prim.Native.Nat.{ℕ, _+_}
 use native.Mathlib.Omega.{arith}
 use lib.Dec.{eqb, ltb}
 use Rattle.laws.proofs.Choice.{by-cond}

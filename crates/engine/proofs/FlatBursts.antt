@@ -2,7 +2,7 @@
 use mathlib.Core.Path.{_≡_, refl, ap, _∙_}
 use mathlib.Core.Bool.{Bool, true, false, cond, _&&_}
 use mathlib.Core.List.{List}
-use Prim.Native.Nat.{ℕ, _+_, _-_, _*_, _≤_, _<_}
+use Prim.Native.Nat.{ℕ, _+_, _-_, _≤_, _<_}
 use native.Mathlib.Omega.{arith}
 use lib.Dec.{leb, ltb}
 use lib.ListN.{length}
@@ -19,7 +19,7 @@ use Rattle.blitter.specs.declared.Blitter.{Blitter}
 use Rattle.blitter.proofs.Sound.{Inside, first-inside}
 use Rattle.engine.specs.Tick.{ended}
 use Rattle.engine.specs.Engine.{BurstFrom, BurstTo, Reach, aheadRow, aheadCol, afterRow, afterCol, levelBlock, stretchAt, leftAt}
-use Rattle.engine.proofs.Bursts.{Bursting, burst-start, burst-used, reach-less, stretch-few, last-in, stretch-col, stretch-row, stretch-end}
+use Rattle.engine.proofs.Bursts.{Bursting, Stretched, stretched, burst-start, burst-used, last-in, stretch-col, stretch-row, stretch-end}
 
 pub record Turned (b : Blitter) (first : List ℕ) (ticks accesses budget : ℕ) (mem : List ℕ) (row col : ℕ) (note : Note) (done made : ℕ) : Type 0 where
   pub going : row < rowsOf (b .block) → Bursting b first ticks accesses budget mem row col note done made
@@ -45,10 +45,9 @@ module _ {b : Blitter} {first : List ℕ} {ticks accesses budget : ℕ} where
       (λ behind. g .ending (leb-true (rowsOf (b .block)) row behind))
       (λ before. let h : row < rowsOf (b .block) = leb-false (rowsOf (b .block)) row before in burst-used (g .going h) (ltb-false done budget (rw (lt-ltb row rows (omega (arith, h))) at t)))
 
--- behind a whole stretch: d is what is drawn
-module _ (b : Blitter) (first : List ℕ) (ticks accesses budget : ℕ) {mem : List ℕ} {row col : ℕ} {note : Note} {done made : ℕ} (g : Bursting b first ticks accesses budget mem row col note done made)
-    (count : ℕ) (some : 0 < count) (r : Reach (b .block) row col count) (room : done + count ≤ budget)
-    (d : Trace) (e : d ≡ traceOf (b .block) (stretchAt (b .block) row col count) mem note) where
+-- behind a whole stretch
+module _ {b : Blitter} {first : List ℕ} {ticks accesses budget : ℕ} {mem : List ℕ} {row col : ℕ} {note : Note} {done made count : ℕ} {d : Trace}
+    (s : Stretched b first ticks accesses budget mem row col note done made count d) where
   abbrev lastRow : ℕ
   lastRow = aheadRow (b .block) row (count - 1)
 
@@ -59,14 +58,14 @@ module _ (b : Blitter) (first : List ℕ) (ticks accesses budget : ℕ) {mem : L
   turned-on = by-test (ltb (lastCol + 1) (columnsOf (b .block))) refl
     where
       inside : Inside (b .block) lastRow lastCol
-      inside = last-in b first ticks accesses budget g count some r room d e
+      inside = last-in s
 
       by-test : (t : Bool) → ltb (lastCol + 1) (columnsOf (b .block)) ≡ t
           → Turned b first ticks accesses budget (d .mem) (cond t lastRow (lastRow + 1)) (cond t (lastCol + 1) 0) (d .note) (done + count) (made + d .accesses)
       by-test true t =
           let h = ltb-true (lastCol + 1) (columnsOf (b .block)) t in
           record {
-            going = λ _. stretch-col b first ticks accesses budget g count some r room d e h;
+            going = λ _. stretch-col s h;
             ending = λ k. absurd (omega (arith, inside .row-in));
             row-in = omega (arith, inside .row-in);
             col-in = h;
@@ -74,21 +73,11 @@ module _ (b : Blitter) (first : List ℕ) (ticks accesses budget : ℕ) {mem : L
       by-test false t =
           let h = ltb-false (lastCol + 1) (columnsOf (b .block)) t in
           record {
-            going = λ k. stretch-row b first ticks accesses budget g count some r room d e h k;
-            ending = λ k. stretch-end b first ticks accesses budget g count some r room d e h k;
+            going = λ k. stretch-row s h k;
+            ending = λ k. stretch-end s h k;
             row-in = omega (arith, inside .row-in);
             col-in = first-inside (b .block) .col-in;
           }
-
--- a part of a stretch, drawn at once: of most bytes count are, and d is what they make
-pub record AtOnce (b : Blitter) (first : List ℕ) (ticks accesses budget : ℕ) (mem : List ℕ) (row col : ℕ) (note : Note) (done made most count : ℕ) (d : Trace) : Type 0 where
-  pub going : Bursting b first ticks accesses budget mem row col note done made
-  pub level : levelBlock (b .block) ≡ true
-  pub some : 0 < most
-  pub reached : Reach (b .block) row col most
-  pub room : most ≤ budget - done
-  pub part : count ≡ flatCount (length mem) (b .block) (stretchAt (b .block) row col most)
-  pub drawn-is : d ≡ traceOf (b .block) (stretchAt (b .block) row col count) mem note
 
 -- as the program comes to it
 module _ {b : Blitter} {first : List ℕ} {ticks accesses budget : ℕ} {mem : List ℕ} {row col : ℕ} {note : Note} {done made rows : ℕ} (t : Turned b first ticks accesses budget mem row col note done made)
@@ -99,39 +88,18 @@ module _ {b : Blitter} {first : List ℕ} {ticks accesses budget : ℕ} {mem : L
   pub turned-going : Bursting b first ticks accesses budget mem row col note done made
   turned-going = t .going (omega (arith, ltb-true row rows (both (ltb row rows) (ltb done budget) test .0)))
 
+  tests : levelBlock (b .block) ≡ true → (goodLength (length mem) && levelBlock (b .block)) ≡ true
+  tests l = and-both (goodLength (length mem)) (levelBlock (b .block)) (ap goodLength (turned-going .long) ∙ turned-going .from .board) l
+
+  -- of most bytes count are drawn at once
   pub at-once : levelBlock (b .block) ≡ true → {reached most : ℕ} → Reach (b .block) row col reached → (0 < most) × (most ≤ reached) × (most ≤ budget - done)
       → {bytes : Stretch} → bytes ≡ stretchAt (b .block) row col most → {count : ℕ} {d : Trace} → count ≡ flatCount (length mem) (b .block) bytes → d ≡ traceOf (b .block) (firstOf bytes count) mem note
-      → AtOnce b first ticks accesses budget mem row col note done made most count d
+      → Stretched b first ticks accesses budget mem row col note done made count d
   at-once l {reached} {most} r (some, few, room) {bytes} s {count} c i =
-      record {
-        going = turned-going;
-        level = l;
-        some = some;
-        reached = reach-less (b .block) row col reached most few r;
-        room = room;
-        part = c ∙ ap (flatCount (length mem) (b .block)) s;
-        drawn-is = i ∙ ap (λ (x : Stretch). traceOf (b .block) (firstOf x count) mem note) s;
-      }
-
-module _ {b : Blitter} {first : List ℕ} {ticks accesses budget : ℕ} {mem : List ℕ} {row col : ℕ} {note : Note} {done made most count : ℕ} {d : Trace}
-    (o : AtOnce b first ticks accesses budget mem row col note done made most count d) where
-  tests : (goodLength (length mem) && levelBlock (b .block)) ≡ true
-  tests = and-both (goodLength (length mem)) (levelBlock (b .block)) (ap goodLength (o .going .long) ∙ o .going .from .board) (o .level)
-
-  pub once-some : 0 < count
-  once-some = rw (o .part) (some-drawn (length mem) (b .block) (stretchAt (b .block) row col most) tests (o .some))
-
-  pub once-few : count ≤ most
-  once-few = rw (o .part) (few-drawn (length mem) (b .block) (stretchAt (b .block) row col most) tests)
-
-  pub once-reach : Reach (b .block) row col count
-  once-reach = reach-less (b .block) row col most count once-few (o .reached)
-
-  pub once-room : done + count ≤ budget
-  once-room = omega (arith, once-few, o .room, o .going .within)
-
-  pub once-accesses : d .accesses ≤ 3 * count
-  once-accesses = stretch-few b first ticks accesses budget (o .going) count once-some once-reach once-room d (o .drawn-is)
-
-  pub once-turned : Turned b first ticks accesses budget (d .mem) (afterRow (b .block) row col count) (afterCol (b .block) col count) (d .note) (done + count) (made + d .accesses)
-  once-turned = turned-on b first ticks accesses budget (o .going) count once-some once-reach once-room d (o .drawn-is)
+      let all = stretchAt (b .block) row col most in
+      let part : count ≡ flatCount (length mem) (b .block) all = c ∙ ap (flatCount (length mem) (b .block)) s in
+      let fewer : count ≤ most = rw part (few-drawn (length mem) (b .block) all (tests l)) in
+      stretched turned-going r
+      (rw part (some-drawn (length mem) (b .block) all (tests l) some), omega arith, omega arith)
+      refl
+      (i ∙ ap (λ (x : Stretch). traceOf (b .block) (firstOf x count) mem note) s)

@@ -17,7 +17,7 @@ use Rattle.engine.specs.declared.Place.{Place}
 use Rattle.engine.specs.Engine.{placeAt, Placed, Column, Row, Reach, tallOf, aheadRow, aheadCol, afterRow, afterCol}
 use Rattle.engine.proofs.Following.{down-is, across-is, sourcerow-is, sourcecol-is}
 
-module _ (b : Block) (p : Place) (q : Placed b p) where
+module _ {b : Block} {p : Place} (q : Placed b p) where
   zoom-x-pos : 0 < zoomX b
   zoom-x-pos = omega arith
 
@@ -27,7 +27,7 @@ module _ (b : Block) (p : Place) (q : Placed b p) where
   pub sourcecol-in : p .sourcecol < patternOf b
   sourcecol-in = rw (sourcecol-is b p (q .at)) (mod-lt (p .col / zoomX b) (pattern-pos b))
 
-  module _ (n : ℕ) where
+  module _ {n : ℕ} where
     pub reach-down : tallOf b ≡ true → n ≡ rowsOf b - p .row → (0 < n) × Reach b (p .row) (p .col) n
     reach-down t e = (omega (arith, q .row-in), inl (record { tall = t; left = omega (arith, q .row-in) }))
 
@@ -98,14 +98,15 @@ module _ (b : Block) (p : Place) (q : Placed b p) where
         (sourcecol-is b p (q .at) ∙ ap (λ (x : ℕ). x % patternOf b) (sym (far .0)))
 
 -- behind so many bytes, l being the place of the last
-module _ (b : Block) (p : Place) (q : Placed b p) (count : ℕ) (some : 0 < count) (r : Reach b (p .row) (p .col) count) (l : Place) (e : l ≡ placeAt b (aheadRow b (p .row) (count - 1)) (aheadCol b (p .col) (count - 1))) where
+module _ {b : Block} {p : Place} (q : Placed b p) {count : ℕ} (some : 0 < count) (r : Reach b (p .row) (p .col) count) {l : Place}
+    (e : l ≡ placeAt b (aheadRow b (p .row) (count - 1)) (aheadCol b (p .col) (count - 1))) where
   pub last-at : l ≡ placeAt b (l .row) (l .col)
   last-at = rw e refl
 
   pub last-inside : Inside b (l .row) (l .col)
   last-inside =
       let one : count ≡ count - 1 + 1 = omega arith in
-      rw e (ahead-in b p q (count - 1) (subst (Reach b (p .row) (p .col)) one r))
+      rw e (ahead-in q (count - 1) (subst (Reach b (p .row) (p .col)) one r))
 
   pub behind-col : l .col + 1 < columnsOf b → placeAt b (l .row) (l .col + 1) ≡ placeAt b (afterRow b (p .row) (p .col) count) (afterCol b (p .col) count)
   behind-col h =

@@ -6,7 +6,8 @@ use Rattle.block.proofs.Sizes.{columns-small, rows-small}
 use Rattle.stretch.specs.Stretch.{trace}
 use Rattle.engine.specs.Engine.{placeAt}
 use Rattle.engine.proofs.Reaching.{reach-small}
-use Rattle.engine.proofs.FlatBursts.{Turned, AtOnce, turned-start, turned-room, turned-going, turned-left, at-once, once-some, once-reach, once-room, once-accesses, once-turned}
+use Rattle.engine.proofs.Bursts.{Stretched, placed-in, stretch-made, stretch-done}
+use Rattle.engine.proofs.FlatBursts.{Turned, turned-start, turned-room, turned-going, turned-left, turned-on, at-once}
 use Rattle.engine.proofs.burst_flat.Statement.{statement}
 use Rattle.engine.proofs.burst_flat.Tie as tie
 
@@ -18,37 +19,38 @@ abbrev μ-loop : tie.MeasureT-loop
 μ-loop blitter mem₀ ticks accesses budget block rows place₀ note₀ done₀ made₀ mem place note done made =
     budget - done
 
--- the function's entry, from its loop
-abbrev entry : tie.At-loop Inv-loop μ-loop → tie.Start Inv-loop μ-loop
-entry l = l .before .before .before .before .before .before
-
--- before it the rows were counted
-abbrev counted : tie.At-loop Inv-loop μ-loop → tie.After-rows Inv-loop μ-loop
-counted l = l .before .before .before
-
 height-in : (a : tie.Start Inv-loop μ-loop) → a .args .blitter .block .height < 256
 height-in a = omega arith
 
 width-in : (a : tie.Start Inv-loop μ-loop) → a .args .blitter .block .width0 < 256
 width-in a = omega arith
 
--- the loop of a turn that draws
-abbrev turn : tie.After-draw Inv-loop μ-loop → tie.At-loop Inv-loop μ-loop
-turn c = c .before .before .before .before .before .before .before
+-- from the loop: where the rows were counted, and the function's entry
+abbrev at-rows : tie.At-loop Inv-loop μ-loop → tie.After-rows Inv-loop μ-loop
+at-rows l = l .before .before .before
 
--- the stretch that this turn draws
-once :
-    (c : tie.After-draw Inv-loop μ-loop)
-    → let l = turn c .loop in
-    let a = entry (turn c) .args in
-    let r = c .draw .result in
-    AtOnce (a .blitter) (a .mem .now) (a .ticks) (a .accesses) (a .budget) (l .mem) (l .place .row) (l .place .col) (l .note) (l .done) (l .made) (c .before .before .before .least .result) (r .count) (trace (c .draw .last .1 .0) (r .note) (r .accesses))
-once c =
-    let d = c .draw .ensures in
-    let bytes = c .before .before .stretch .ensures in
-    let rows = counted (turn c) .rows .ensures in
-    let level = entry (turn c) .pre .1 in
-    at-once (turn c .loop .inv .0) rows (c .before .before .before .before .before .if1 .taken) level (c .before .before .before .before .reach .ensures .1) (c .before .before .before .least .ensures) bytes (d .0) (d .1)
+abbrev entry : tie.At-loop Inv-loop μ-loop → tie.Start Inv-loop μ-loop
+entry l = at-rows l .before .before .before
+
+-- where a stretch is drawn, and the loop before it
+abbrev Drew : Type 0
+Drew = tie.After-draw Inv-loop μ-loop
+
+abbrev at-loop : Drew → tie.At-loop Inv-loop μ-loop
+at-loop c = c .before .before .before .before .before .before .before
+
+-- what that turn of the loop draws
+turn :
+    (c : Drew)
+    → let a = entry (at-loop c) .args in
+    let l = at-loop c .loop in
+    let drawn = c .draw in
+    Stretched (a .blitter) (a .mem .now) (a .ticks) (a .accesses) (a .budget) (l .mem) (l .place .row) (l .place .col) (l .note) (l .done) (l .made)
+    (drawn .result .count) (trace (drawn .last .1 .0) (drawn .result .note) (drawn .result .accesses))
+turn c =
+    let drawn = c .draw .ensures in
+    at-once (at-loop c .loop .inv .0) (at-rows (at-loop c) .rows .ensures) (c .before .before .before .before .before .if1 .taken) (entry (at-loop c) .pre .1)
+    (c .before .before .before .before .reach .ensures .1) (c .before .before .before .least .ensures) (c .before .before .stretch .ensures) (drawn .0) (drawn .1)
 
 rows-requires : tie.Need-rows-requires Inv-loop μ-loop
 rows-requires c κs = tt
@@ -65,51 +67,43 @@ loop-holds c = rw (c .before .place-of .ensures) (turned-start (c .before .befor
 reach-requires : tie.Need-reach-requires Inv-loop μ-loop
 reach-requires c κs =
     let l = c .before .before in
-    let g = turned-going (l .loop .inv .0) (counted l .rows .ensures) (c .if1 .taken) in
-    record { at = l .loop .inv .1; row-in = g .place .row-in; col-in = g .place .col-in }
+    placed-in (turned-going (l .loop .inv .0) (at-rows l .rows .ensures) (c .if1 .taken)) (l .loop .inv .1)
 
 sub-least : tie.Need-sub-least Inv-loop μ-loop
 sub-least c =
     let l = c .before .before .before in
-    omega (arith, turned-room (l .loop .inv .0) (counted l .rows .ensures) (c .before .if1 .taken))
+    omega (arith, turned-room (l .loop .inv .0) (at-rows l .rows .ensures) (c .before .if1 .taken))
 
 least-requires : tie.Need-least-requires Inv-loop μ-loop
 least-requires c κs =
     let l = c .before .before .before in
-    (c .reach .ensures .0, omega (arith, turned-room (l .loop .inv .0) (counted l .rows .ensures) (c .before .if1 .taken)))
+    (c .reach .ensures .0, omega (arith, turned-room (l .loop .inv .0) (at-rows l .rows .ensures) (c .before .if1 .taken)))
 
 stretch-requires : tie.Need-stretch-requires Inv-loop μ-loop
 stretch-requires c κs =
     let l = c .before .before .before .before in
-    let g = turned-going (l .loop .inv .0) (counted l .rows .ensures) (c .before .before .if1 .taken) in
-    (record { at = l .loop .inv .1; row-in = g .place .row-in; col-in = g .place .col-in }, omega (arith, c .least .ensures .1, reach-small _ _ _ _ (height-in (entry l)) (width-in (entry l)) (c .before .reach .ensures .1)))
+    let g = turned-going (l .loop .inv .0) (at-rows l .rows .ensures) (c .before .before .if1 .taken) in
+    (placed-in g (l .loop .inv .1), omega (arith, c .least .ensures .1, reach-small _ _ _ _ (height-in (entry l)) (width-in (entry l)) (c .before .reach .ensures .1)))
 
 draw-requires : tie.Need-draw-requires Inv-loop μ-loop
 draw-requires c κs = tt
 
 add-made : tie.Need-add-made Inv-loop μ-loop
-add-made c =
-    let o = once (c .before .before .before .before) in
-    record { fits = omega (arith, o .going .counted, o .going .from .small, once-room o, once-accesses o) }
+add-made c = stretch-made (turn (c .before .before .before .before))
 
 add-done : tie.Need-add-done Inv-loop μ-loop
-add-done c =
-    let o = once (c .before .before .before .before .before) in
-    record { fits = omega (arith, o .going .from .small, once-room o) }
+add-done c = stretch-done (turn (c .before .before .before .before .before))
 
 after-requires : tie.Need-after-requires Inv-loop μ-loop
 after-requires c κs =
-    let drawn = c .before .before .before .before .before in
-    let o = once drawn in
-    (record { at = turn drawn .loop .inv .1; row-in = o .going .place .row-in; col-in = o .going .place .col-in }, once-some o, once-reach o)
+    let drew = c .before .before .before .before .before in
+    (placed-in (turn drew .going) (at-loop drew .loop .inv .1), turn drew .some, turn drew .reach)
 
 loop-less : tie.Need-loop-less Inv-loop μ-loop
-loop-less c =
-    let o = once (c .before .before .before .before .before .before) in
-    omega (arith, once-some o, once-room o)
+loop-less c = let s = turn (c .before .before .before .before .before .before) in omega (arith, s .some, s .room)
 
 loop-again : tie.Need-loop-again Inv-loop μ-loop
-loop-again c = rw (c .after .ensures) (once-turned (once (c .before .before .before .before .before .before)), refl)
+loop-again c = rw (c .after .ensures) (turned-on (turn (c .before .before .before .before .before .before)), refl)
 
 leave-requires : tie.Need-leave-requires Inv-loop μ-loop
 leave-requires c κs =
@@ -120,12 +114,13 @@ leave-requires c κs =
 same-length : tie.Need-same-length Inv-loop μ-loop
 same-length c =
     let l = c .before .before .before in
-    turned-left (l .loop .inv .0) (counted l .rows .ensures) (c .before .if1 .left) .long
+    turned-left (l .loop .inv .0) (at-rows l .rows .ensures) (c .before .if1 .left) .long
 
 returns : tie.Need-returns Inv-loop μ-loop
 returns c =
     let l = c .before .before .before in
-    rw (c .leave .ensures .0, c .leave .ensures .1, c .leave .ensures .2) (turned-left (l .loop .inv .0) (counted l .rows .ensures) (c .before .if1 .left))
+    let left = c .leave .ensures in
+    rw (left .0, left .1, left .2) (turned-left (l .loop .inv .0) (at-rows l .rows .ensures) (c .before .if1 .left))
 
 pub burst-flat-spec : {M : Type 1} → statement M
 burst-flat-spec =

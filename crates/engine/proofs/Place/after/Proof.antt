@@ -25,7 +25,7 @@ add-if1 : tie.Need-add-if1
 add-if1 c =
     let start = c .before .before in
     let p = start .pre in
-    record { fits = omega (arith, last-inside _ _ (p .0) _ (p .1) (p .2) _ (c .before .ahead .ensures) .col-in, columns-small (start .args .block) (width-in start)) }
+    record { fits = omega (arith, last-inside (p .0) (p .1) (p .2) (c .before .ahead .ensures) .col-in, columns-small (start .args .block) (width-in start)) }
 
 columns-requires : tie.Need-columns-requires
 columns-requires c κs = search needs
@@ -38,24 +38,24 @@ next-col-requires c κs =
     let start = c .before .before .before .before in
     let p = start .pre in
     let last = c .before .before .before .ahead .ensures in
-    (last-at _ _ (p .0) _ (p .1) (p .2) _ last, omega (arith, last-inside _ _ (p .0) _ (p .1) (p .2) _ last .col-in, columns-small (start .args .block) (width-in start)))
+    (last-at (p .0) (p .1) (p .2) last, omega (arith, last-inside (p .0) (p .1) (p .2) last .col-in, columns-small (start .args .block) (width-in start)))
 
 returns : tie.Need-returns
 returns c =
     let p = c .before .before .before .before .before .pre in
-    c .next-col .ensures ∙ behind-col _ _ (p .0) _ (p .1) (p .2) _ (c .before .before .before .before .ahead .ensures) (omega (arith, c .before .if1 .taken, c .before .before .columns .ensures))
+    c .next-col .ensures ∙ behind-col (p .0) (p .1) (p .2) (c .before .before .before .before .ahead .ensures) (omega (arith, c .before .if1 .taken, c .before .before .columns .ensures))
 
 next-row-requires : tie.Need-next-row-requires
 next-row-requires c κs =
     let start = c .before .before .before .before in
     let p = start .pre in
     let last = c .before .before .before .ahead .ensures in
-    (last-at _ _ (p .0) _ (p .1) (p .2) _ last, omega (arith, last-inside _ _ (p .0) _ (p .1) (p .2) _ last .row-in, rows-small (start .args .block) (height-in start)))
+    (last-at (p .0) (p .1) (p .2) last, omega (arith, last-inside (p .0) (p .1) (p .2) last .row-in, rows-small (start .args .block) (height-in start)))
 
 returns-2 : tie.Need-returns-2
 returns-2 c =
     let p = c .before .before .before .before .before .pre in
-    c .next-row .ensures ∙ behind-row _ _ (p .0) _ (p .1) (p .2) _ (c .before .before .before .before .ahead .ensures) (omega (arith, c .before .if1 .left, c .before .before .columns .ensures))
+    c .next-row .ensures ∙ behind-row (p .0) (p .1) (p .2) (c .before .before .before .before .ahead .ensures) (omega (arith, c .before .if1 .left, c .before .before .columns .ensures))
 
 pub after-spec : {M : Type 1} → statement M
 after-spec =

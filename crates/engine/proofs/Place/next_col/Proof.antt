@@ -37,10 +37,14 @@ add-self-3 : tie.Need-add-self-3
 add-self-3 c = search needs
 
 returns-2 : tie.Need-returns-2
-returns-2 c = let a = c .before .before .before .before .before .before .before .before in next-column (a .args .block) (a .args .self) (a .pre .0) (rw (sym (c .before .before .before .before .before .zoom-x .ensures)) (c .before .before .before .before .if1 .left)) (rw (sym (c .before .before .pattern-width .ensures)) (c .before .if2 .taken))
+returns-2 c =
+    let a = c .before .before .before .before .before .before .before .before in
+    next-column (a .args .block) (a .args .self) (a .pre .0) (rw (sym (c .before .before .before .before .before .zoom-x .ensures)) (c .before .before .before .before .if1 .left)) (rw (sym (c .before .before .pattern-width .ensures)) (c .before .if2 .taken))
 
 returns-3 : tie.Need-returns-3
-returns-3 c = let a = c .before .before .before .before .before .before .before in first-column (a .args .block) (a .args .self) (a .pre .0) (rw (sym (c .before .before .before .before .zoom-x .ensures)) (c .before .before .before .if1 .left)) (rw (sym (c .before .pattern-width .ensures)) (c .if2 .left))
+returns-3 c =
+    let a = c .before .before .before .before .before .before .before in
+    first-column (a .args .block) (a .args .self) (a .pre .0) (rw (sym (c .before .before .before .before .zoom-x .ensures)) (c .before .before .before .if1 .left)) (rw (sym (c .before .pattern-width .ensures)) (c .if2 .left))
 
 pub next-col-spec : {M : Type 1} → statement M
 next-col-spec =

@@ -1,4 +1,5 @@
 -- `engine::Place::stretch` meets its contract. Assumes nothing.
+use mathlib.Core.Path.{_∙_}
 use Prim.Native.Nat.{_<_}
 use native.Mathlib.Omega.{arith}
 use Rattle.block.proofs.Sizes.{columns-small, rows-small}
@@ -41,7 +42,10 @@ cast-t13 : tie.Need-cast-t13
 cast-t13 c = search needs
 
 returns : tie.Need-returns
-returns c = let a = c .before .before .before .before .before .before .before .before .before in rw (c .before .before .before .before .before .address .ensures, source-is (a .args .block) (a .args .self) (a .pre .0 .at), c .before .before .before .before .source-step .ensures, c .before .destination .ensures, c .dest-step .ensures)
+returns c =
+    let a = c .before .before .before .before .before .before .before .before .before in
+    let from = c .before .before .before .before .before .address .ensures ∙ source-is (a .args .block) (a .args .self) (a .pre .0 .at) in
+    rw (from, c .before .before .before .before .source-step .ensures, c .before .destination .ensures, c .dest-step .ensures)
 
 pub stretch-spec : {M : Type 1} → statement M
 stretch-spec =
