@@ -1,11 +1,12 @@
 -- Which blitters are sound, as facts and as the test. Assumes nothing.
-use mathlib.Core.Path.{_≡_, refl, sym, ap, _∙_}
-use mathlib.Core.Bool.{Bool, true, false, cond, _&&_}
+use mathlib.Core.Path.{_≡_, refl}
+use mathlib.Core.Bool.{Bool, true, false, cond}
+use mathlib.Core.List.{[], _∷_}
 use Prim.Native.Nat.{ℕ, _≤_, _<_}
 use native.Mathlib.Omega.{arith}
 use lib.Dec.{eqb, ltb, leb}
 use borrow.Author.Tests.{eqb-true, eqb-false, ltb-true, leb-true, eq-eqb, ne-eqb, lt-ltb, le-leb}
-use Rattle.laws.proofs.Choice.{both, and-both}
+use Rattle.laws.proofs.Choice.{both, and-both, each-test}
 use Rattle.block.specs.Block.{columnsOf, rowsOf, noBlock, isNone}
 use Rattle.block.specs.declared.Block.{Block}
 use Rattle.block.proofs.None.{is-none, none-is}
@@ -41,9 +42,8 @@ module _ (block : Block) (row col : ℕ) where
 
   pub blank-facts : blank block row col ≡ true → Blank block row col
   blank-facts e =
-      let p = both (isNone block && eqb row 0) (eqb col 0) e in
-      let q = both (isNone block) (eqb row 0) (p .0) in
-      record { block-is = is-none block (q .0); row-is = eqb-true row 0 (q .1); col-is = eqb-true col 0 (p .1) }
+      let (none, (row-0, (col-0, end))) = each-test (isNone block) (eqb row 0 ∷ eqb col 0 ∷ []) e in
+      record { block-is = is-none block none; row-is = eqb-true row 0 row-0; col-is = eqb-true col 0 col-0 }
 
   pub blank-test : Blank block row col → blank block row col ≡ true
   blank-test i = and-both _ _ (and-both _ _ (none-is block (i .block-is)) (eq-eqb row 0 (i .row-is))) (eq-eqb col 0 (i .col-is))
@@ -53,13 +53,12 @@ pub sound-facts : (b : Blitter) → soundBlitter b ≡ true → Sound b
 unfolding soundBlitter
 sound-facts b e =
     let placed = cond (eqb (b .flags) 2) (inside (b .block) (b .row) (b .col)) (blank (b .block) (b .row) (b .col)) in
-    let p = both (ltb (b .list) 524288 && leb (b .flags) 2) placed e in
-    let q = both (ltb (b .list) 524288) (leb (b .flags) 2) (p .0) in
+    let (list, (flags, (position, end))) = each-test (ltb (b .list) 524288) (leb (b .flags) 2 ∷ placed ∷ []) e in
     record {
-      list-in = ltb-true (b .list) 524288 (q .0);
-      flags-in = leb-true (b .flags) 2 (q .1);
-      busy = λ two. inside-facts (b .block) (b .row) (b .col) (rw (eq-eqb (b .flags) 2 two) at (p .1));
-      idle = λ not. blank-facts (b .block) (b .row) (b .col) (rw (ne-eqb (b .flags) 2 not) at (p .1));
+      list-in = ltb-true (b .list) 524288 list;
+      flags-in = leb-true (b .flags) 2 flags;
+      busy = λ two. inside-facts (b .block) (b .row) (b .col) (rw (eq-eqb (b .flags) 2 two) at position);
+      idle = λ not. blank-facts (b .block) (b .row) (b .col) (rw (ne-eqb (b .flags) 2 not) at position);
     }
 
 -- and the other way round

@@ -1,21 +1,30 @@
 ghost use mathlib.Core.Path.{_≡_};
 ghost use mathlib.Core.Bool.{cond};
 ghost use lib.Dec.{eqb};
+ghost use Rattle.block.specs.Byte.{newNote};
 ghost use Rattle.blitter.specs.State.{newBlitter, inside, blank, soundBlitter, started, stopped, interrupts};
 use block::Block;
+use block::Note;
 use vram::Vram;
 
 // The blitter between two ticks: the interrupt's enable and request, the list address, the flags
-// (0 idle, 1 BCB_LOAD, 2 BUSY), the collision code, the block being done, and the position in it.
+// (0 idle, 1 BCB_LOAD, 2 BUSY), what collisions left, the block being done, and the position in it.
 pub struct Blitter {
     pub irqe: bool,
     pub irqf: bool,
     pub list: u32,
     pub flags: u8,
-    pub code: u8,
+    pub note: Note,
     pub block: Block,
     pub row: u16,
     pub col: u16,
+}
+
+// No collision yet.
+fn new_note() -> Note
+    ensures { λ r. ⌜ r ≡ newNote ⌝ }
+{
+    Note { code: 0 }
 }
 
 impl Blitter {
@@ -24,12 +33,13 @@ impl Blitter {
         ensures { λ r. ⌜ r ≡ newBlitter ⌝ }
     {
         let block = Block::none();
+        let note = new_note();
         Blitter {
             irqe: false,
             irqf: false,
             list: 0,
             flags: 0,
-            code: 0,
+            note,
             block,
             row: 0,
             col: 0,
@@ -73,9 +83,10 @@ impl Blitter {
         ensures { λ r. ⌜ r ≡ started list self ⌝ }
     {
         let none = Block::none();
+        let note = new_note();
         self.list = list;
         self.flags = 1;
-        self.code = 0;
+        self.note = note;
         self.block = none;
         self.row = 0;
         self.col = 0;

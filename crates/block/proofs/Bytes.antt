@@ -3,11 +3,12 @@ use mathlib.Core.Path.{_≡_}
 use mathlib.Core.List.{List}
 use Prim.Native.Nat.{ℕ, _+_, _≤_, _<_}
 use native.Mathlib.Omega.{arith}
-use lib.ListN.{getD}
-use Rattle.vram.specs.Memory.{byteAt}
+use Rattle.vram.specs.Memory.{Bytes, byteAt}
 use Rattle.step.specs.declared.Side.{Side}
 use Rattle.block.specs.Block.{sideAt, blockAt}
+use Rattle.block.specs.Byte.{newNote}
 use Rattle.block.specs.declared.Block.{Block}
+use Rattle.block.specs.declared.Note.{Note}
 
 -- two memories, or two addresses, that agree on the 21 bytes give the same block
 module _ (x y : List ℕ) (a b : ℕ) (same : (j : ℕ) → j < 21 → byteAt x a j ≡ byteAt y b j) where
@@ -64,7 +65,14 @@ pub record BlockBytes (b : Block) : Type 0 where
   pub pattern : b .pattern < 256
   pub control : b .control < 256
 
-module _ (mem : List ℕ) (list : ℕ) (bytes : (i : ℕ) → getD mem i 0 < 256) where
+-- and so is a note's
+pub record NoteBytes (n : Note) : Type 0 where
+  pub code : n .code < 256
+
+pub new-note-bytes : NoteBytes newNote
+new-note-bytes = record { code = omega arith }
+
+module _ (mem : List ℕ) (list : ℕ) (bytes : Bytes mem) where
   side-bytes : (k : ℕ) → SideBytes (sideAt mem list k)
   unfolding sideAt
   side-bytes k = record { adr0 = bytes _; adr1 = bytes _; adr2 = bytes _; y0 = bytes _; y1 = bytes _; x = bytes _ }

@@ -1,6 +1,6 @@
 ghost use mathlib.Core.Path.{_≡_};
 ghost use Prim.Native.Nat.{_≤_};
-ghost use Rattle.block.specs.Block.{sideAt, blockAt, noneSide, isNone, noBlock, widthOf, heightOf, zoomX, zoomY, patternOf, columnsOf, rowsOf, modeOf, nextOf, destAddress, sourceAddress};
+ghost use Rattle.block.specs.Block.{sideAt, blockAt, noneSide, isNone, noBlock, widthOf, zoomX, zoomY, patternOf, columnsOf, rowsOf, modeOf, nextOf, destAddress, sourceAddress};
 ghost use Rattle.block.specs.Byte.{readsSource};
 use step::Side;
 
@@ -20,9 +20,14 @@ pub struct Block {
     pub control: u8,
 }
 
-// What one destination byte leaves beside memory: the collision code after it, and its accesses.
-pub struct Struck {
+// What the bytes of a block leave of collisions: the code of the last.
+pub struct Note {
     pub code: u8,
+}
+
+// What one destination byte leaves beside memory: the note after it, and its accesses.
+pub struct Struck {
+    pub note: Note,
     pub accesses: u8,
 }
 

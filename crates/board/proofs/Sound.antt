@@ -14,7 +14,7 @@ use Rattle.engine.specs.Run.{begun}
 use Rattle.blitter.specs.declared.Blitter.{Blitter}
 use Rattle.blitter.proofs.Sound as blit
 use Rattle.engine.proofs.Runs.{run-sound, run-length}
-use Rattle.engine.proofs.Bytes.{Bytes, run-bytes}
+use Rattle.engine.proofs.Bytes.{InBytes, run-bytes}
 use Rattle.board.specs.declared.Ports.{Ports}
 use Rattle.board.specs.declared.Board.{Board}
 use Rattle.board.specs.Ports.{soundPorts, byteSet, among, portsWritten}
@@ -127,11 +127,11 @@ module _ (b : Board) (mem : List ℕ) (budget : ℕ) where
   unfolding runBoard
   run-ports = by-kept (λ (x : Board). x .ports ≡ b .ports) (runAnswer b mem budget) b _ refl refl
 
-  pub run-board-bytes : Bytes (b .blitter) mem → Bytes (runBoard b mem budget .blitter) (runMemory b mem budget)
+  pub run-board-bytes : InBytes (b .blitter) mem → InBytes (runBoard b mem budget .blitter) (runMemory b mem budget)
   unfolding runBoard runMemory
   run-board-bytes h = by (runAnswer b mem budget) _ _ (run-bytes budget (begun (b .blitter) mem) h)
     where
-      by : {X : Type 0} (t : Told X) (x : Board) (m : List ℕ) → Bytes (x .blitter) m → Bytes (kept t b x .blitter) (kept t mem m)
+      by : {X : Type 0} (t : Told X) (x : Board) (m : List ℕ) → InBytes (x .blitter) m → InBytes (kept t b x .blitter) (kept t mem m)
       by (done v) x m k = k
       by (refused number item) x m k = h
 
@@ -146,5 +146,5 @@ module _ (b : Board) (mem : List ℕ) where
   pub tick-ports : tickBoard b mem .ports ≡ b .ports
   tick-ports = sym (ap (λ (x : Board). x .ports) (tick-board b mem)) ∙ run-ports b mem 1
 
-  pub tick-board-bytes : Bytes (b .blitter) mem → Bytes (tickBoard b mem .blitter) (tickMem b mem)
+  pub tick-board-bytes : InBytes (b .blitter) mem → InBytes (tickBoard b mem .blitter) (tickMem b mem)
   tick-board-bytes h = rw (← tick-board b mem, ← tick-memory b mem) (run-board-bytes b mem 1 h)

@@ -16,11 +16,13 @@ use Rattle.vram.specs.Memory.{goodLength}
 use Rattle.block.specs.Block.{zoomY, columnsOf, rowsOf, destAddress, sourceAddress}
 use Rattle.block.specs.Byte.{written, struckAt}
 use Rattle.block.specs.declared.Block.{Block}
+use Rattle.block.specs.declared.Note.{Note}
 use Rattle.block.specs.declared.Struck.{Struck}
 use Rattle.block.proofs.Byte.{written-length, struck-small}
 use Rattle.stretch.specs.declared.Stretch.{Stretch}
-use Rattle.stretch.specs.Stretch.{Trace, trace, strokes, traceOf}
+use Rattle.stretch.specs.Stretch.{Trace, trace, struck, strokes, traceOf}
 use Rattle.blitter.specs.declared.Blitter.{Blitter}
+use Rattle.blitter.specs.State.{withWork, withNote}
 use Rattle.engine.specs.declared.Place.{Place}
 use Rattle.engine.specs.Tick.{busyAt, ended, movedOn, byteTick, tickBlitter, tickMemory, tickCount}
 use Rattle.engine.specs.Run.{ticked, runFor, progress}
@@ -36,25 +38,24 @@ pub less : (budget done : ℕ) → done < budget → suc (budget - (done + 1)) �
 less budget done h = omega arith
 
 -- the same flags at another position
-abbrev placed : Blitter → ℕ → ℕ → ℕ → ℕ → Blitter
-placed b flags row col code =
-    record { irqe = b .irqe; irqf = b .irqf; list = b .list; flags = flags; code = code; block = b .block; row = row; col = col }
+abbrev placed : Blitter → ℕ → ℕ → ℕ → Note → Blitter
+placed b flags row col note = withWork flags (b .block) row col (withNote note b)
 
 -- which are those of a busy blitter
-as-busy : (b : Blitter) (row col code : ℕ) → b .flags ≡ 2 → busyAt b row col code ≡ placed b (b .flags) row col code
-as-busy b row col code e = ap (λ (n : ℕ). placed b n row col code) (sym e)
+as-busy : (b : Blitter) (row col : ℕ) (note : Note) → b .flags ≡ 2 → busyAt b row col note ≡ placed b (b .flags) row col note
+as-busy b row col note e = ap (λ (n : ℕ). placed b n row col note) (sym e)
 
-pub record Bursting (b : Blitter) (first : List ℕ) (ticks accesses budget : ℕ) (mem : List ℕ) (row col code done made : ℕ) : Type 0 where
+pub record Bursting (b : Blitter) (first : List ℕ) (ticks accesses budget : ℕ) (mem : List ℕ) (row col : ℕ) (note : Note) (done made : ℕ) : Type 0 where
   pub from : BurstFrom b first ticks accesses budget
   pub long : length mem ≡ length first
   pub place : Inside (b .block) row col
   pub begun : ticks ≤ done
   pub within : done ≤ budget
   pub counted : made ≤ 21 * done
-  pub same : runFor (budget - done) (progress (busyAt b row col code) mem done made) ≡ runFor (budget - ticks) (progress b first ticks accesses)
+  pub same : runFor (budget - done) (progress (busyAt b row col note) mem done made) ≡ runFor (budget - ticks) (progress b first ticks accesses)
 
 module _ {b : Blitter} {first : List ℕ} {ticks accesses budget : ℕ} where
-  pub burst-start : BurstFrom b first ticks accesses budget → Bursting b first ticks accesses budget first (b .row) (b .col) (b .code) ticks accesses
+  pub burst-start : BurstFrom b first ticks accesses budget → Bursting b first ticks accesses budget first (b .row) (b .col) (b .note) ticks accesses
   burst-start f =
       record {
         from = f;
@@ -63,16 +64,16 @@ module _ {b : Blitter} {first : List ℕ} {ticks accesses budget : ℕ} where
         begun = omega arith;
         within = omega (arith, f .left);
         counted = f .counted;
-        same = ap (λ (x : Blitter). runFor (budget - ticks) (progress x first ticks accesses)) (as-busy b (b .row) (b .col) (b .code) (f .busy));
+        same = ap (λ (x : Blitter). runFor (budget - ticks) (progress x first ticks accesses)) (as-busy b (b .row) (b .col) (b .note) (f .busy));
       }
 
-  module _ {mem : List ℕ} {row col code done made : ℕ} (g : Bursting b first ticks accesses budget mem row col code done made) where
+  module _ {mem : List ℕ} {row col : ℕ} {note : Note} {done made : ℕ} (g : Bursting b first ticks accesses budget mem row col note done made) where
     -- the budget is used
-    pub burst-used : budget ≤ done → BurstTo b first ticks accesses budget (placed b (b .flags) row col code) mem done made
+    pub burst-used : budget ≤ done → BurstTo b first ticks accesses budget (placed b (b .flags) row col note) mem done made
     burst-used h =
-        subst (λ (x : Blitter). BurstTo b first ticks accesses budget x mem done made) (as-busy b row col code (g .from .busy))
+        subst (λ (x : Blitter). BurstTo b first ticks accesses budget x mem done made) (as-busy b row col note (g .from .busy))
         (record {
-          sound = sound-test _ (busy-sound b row col code (g .from .list) (g .place));
+          sound = sound-test _ (busy-sound b row col note (g .from .list) (g .place));
           long = g .long;
           further = omega (arith, g .from .left);
           within = g .within;
@@ -83,26 +84,26 @@ module _ {b : Blitter} {first : List ℕ} {ticks accesses budget : ℕ} where
     module _ (h : done < budget) where
       -- one byte tick
       byte : Struck
-      byte = struckAt (b .block) mem row col code
+      byte = struckAt (b .block) mem row col note
 
-      on : runFor (budget - (done + 1)) (progress (movedOn (busyAt b row col code) (byte .code)) (written (b .block) row col mem) (done + 1) (made + byte .accesses))
+      on : runFor (budget - (done + 1)) (progress (movedOn (busyAt b row col note) (byte .note)) (written (b .block) row col mem) (done + 1) (made + byte .accesses))
           ≡ runFor (budget - ticks) (progress b first ticks accesses)
       unfolding byte ticked tickBlitter tickMemory tickCount byteTick
       on =
-          sym (run-tick (budget - (done + 1)) (progress (busyAt b row col code) mem done made) (λ e. absurd (let z : _≡_ {A = ℕ} 2 0 = e in omega arith)))
-          ∙ ap (λ (k : ℕ). runFor k (progress (busyAt b row col code) mem done made)) (less budget done h)
+          sym (run-tick (budget - (done + 1)) (progress (busyAt b row col note) mem done made) (λ e. absurd (let z : _≡_ {A = ℕ} 2 0 = e in omega arith)))
+          ∙ ap (λ (k : ℕ). runFor k (progress (busyAt b row col note) mem done made)) (less budget done h)
           ∙ g .same
 
       long-on : length (written (b .block) row col mem) ≡ length first
-      long-on = written-length (b .block) row col mem ∙ g .long
+      long-on = written-length (b .block) _ _ mem ∙ g .long
 
       few-on : made + byte .accesses ≤ 21 * (done + 1)
       unfolding byte
-      few-on = omega (arith, struck-small (b .block) row col mem code, g .counted)
+      few-on = let few : byte .accesses ≤ 3 = struck-small (b .block) _ _ mem note in omega (arith, few, g .counted)
 
       -- the next column
       turn-col : col + 1 < columnsOf (b .block)
-          → Bursting b first ticks accesses budget (written (b .block) row col mem) row (col + 1) (struckAt (b .block) mem row col code .code) (done + 1) (made + struckAt (b .block) mem row col code .accesses)
+          → Bursting b first ticks accesses budget (written (b .block) row col mem) row (col + 1) (struckAt (b .block) mem row col note .note) (done + 1) (made + struckAt (b .block) mem row col note .accesses)
       unfolding byte movedOn
       turn-col k =
           record {
@@ -117,7 +118,7 @@ module _ {b : Blitter} {first : List ℕ} {ticks accesses budget : ℕ} where
 
       -- the next row
       turn-row : columnsOf (b .block) ≤ col + 1 → row + 1 < rowsOf (b .block)
-          → Bursting b first ticks accesses budget (written (b .block) row col mem) (row + 1) 0 (struckAt (b .block) mem row col code .code) (done + 1) (made + struckAt (b .block) mem row col code .accesses)
+          → Bursting b first ticks accesses budget (written (b .block) row col mem) (row + 1) 0 (struckAt (b .block) mem row col note .note) (done + 1) (made + struckAt (b .block) mem row col note .accesses)
       unfolding byte movedOn
       turn-row k l =
           record {
@@ -132,7 +133,7 @@ module _ {b : Blitter} {first : List ℕ} {ticks accesses budget : ℕ} where
 
       -- the block's end
       turn-end : columnsOf (b .block) ≤ col + 1 → rowsOf (b .block) ≤ row + 1
-          → BurstTo b first ticks accesses budget (ended b (struckAt (b .block) mem row col code .code)) (written (b .block) row col mem) (done + 1) (made + struckAt (b .block) mem row col code .accesses)
+          → BurstTo b first ticks accesses budget (ended b (struckAt (b .block) mem row col note .note)) (written (b .block) row col mem) (done + 1) (made + struckAt (b .block) mem row col note .accesses)
       unfolding byte movedOn ended
       turn-end k l =
           record {
@@ -162,7 +163,7 @@ none-col false col = add-zero col
 
 module _ (b : Blitter) (first : List ℕ) (ticks accesses budget : ℕ) where
   abbrev At : Trace → ℕ → ℕ → ℕ → Type 0
-  At d row col done = Bursting b first ticks accesses budget (d .mem) row col (d .code) done (d .accesses)
+  At d row col done = Bursting b first ticks accesses budget (d .mem) row col (d .note) done (d .accesses)
 
   -- the same, of equal parts
   moved : (d e : Trace) (row row′ col col′ done done′ : ℕ) → d ≡ e → row ≡ row′ → col ≡ col′ → done ≡ done′ → At d row col done → At e row′ col′ done′
@@ -170,10 +171,10 @@ module _ (b : Blitter) (first : List ℕ) (ticks accesses budget : ℕ) where
       subst (λ (z : ℕ). At e row′ col′ z) s
       (subst (λ (z : ℕ). At e row′ z done) r (subst (λ (z : ℕ). At e z col done) q (subst (λ (z : Trace). At z row col done) p x)))
 
-  module _ {mem : List ℕ} {row col code done made : ℕ} (g : Bursting b first ticks accesses budget mem row col code done made) where
+  module _ {mem : List ℕ} {row col : ℕ} {note : Note} {done made : ℕ} (g : Bursting b first ticks accesses budget mem row col note done made) where
     -- so many bytes of the stretch, counted on from what was made
     abbrev many : ℕ → Trace
-    many k = strokes (b .block) (sourceStep (b .block)) (destStep (b .block)) k (sourceAddress (b .block) row col) (destAddress (b .block) row col) (trace mem code made)
+    many k = strokes (b .block) (sourceStep (b .block)) (destStep (b .block)) k (sourceAddress (b .block) row col) (destAddress (b .block) row col) (trace mem note made)
 
     -- where the byte k on stands
     abbrev rowOn : ℕ → ℕ
@@ -185,13 +186,14 @@ module _ (b : Blitter) (first : List ℕ) (ticks accesses budget : ℕ) where
     -- one byte more than those
     abbrev oneOn : ℕ → Trace
     oneOn k =
-        let u = struckAt (b .block) (many k .mem) (rowOn k) (colOn k) (many k .code) in
-        trace (written (b .block) (rowOn k) (colOn k) (many k .mem)) (u .code) (many k .accesses + u .accesses)
+        let u = struckAt (b .block) (many k .mem) (rowOn k) (colOn k) (many k .note) in
+        trace (written (b .block) (rowOn k) (colOn k) (many k .mem)) (u .note) (many k .accesses + u .accesses)
 
     one-more : (k : ℕ) → Reach (b .block) row col (suc k) → oneOn k ≡ many (suc k)
+    unfolding struck
     one-more k r =
-        sym (strokes-last (b .block) (sourceStep (b .block)) (destStep (b .block)) k (sourceAddress (b .block) row col) (destAddress (b .block) row col) (trace mem code made)
-        ∙ struck-at (b .block) (rowOn k) (colOn k) _ _ (many k .mem) (many k .code) (many k .accesses) (source-on (b .block) row col k r) (dest-on (b .block) row col k))
+        sym (strokes-last (b .block) (sourceStep (b .block)) (destStep (b .block)) k (sourceAddress (b .block) row col) (destAddress (b .block) row col) (trace mem note made)
+        ∙ struck-at (b .block) (rowOn k) (colOn k) _ _ (many k) (source-on (b .block) row col k r) (dest-on (b .block) row col k))
 
     -- one turn more, down a tall block
     down : (k : ℕ) → Column (b .block) row (suc (suc k)) → done + suc k < budget → At (many k) (rowOn k) (colOn k) (done + k) → At (many (suc k)) (rowOn (suc k)) (colOn (suc k)) (done + suc k)
@@ -217,42 +219,42 @@ module _ (b : Blitter) (first : List ℕ) (ticks accesses budget : ℕ) where
     turns : (k : ℕ) → Reach (b .block) row col (suc k) → done + k < budget → At (many k) (rowOn k) (colOn k) (done + k)
     unfolding strokes
     turns zero r h =
-        moved (trace mem code made) (trace mem code made) row (rowOn 0) col (colOn 0) done (done + 0) refl
+        moved (trace mem note made) (trace mem note made) row (rowOn 0) col (colOn 0) done (done + 0) refl
         (sym (none-row (tallOf (b .block)) row)) (sym (none-col (tallOf (b .block)) col)) (sym (add-zero done)) g
     turns (suc k) r h =
         let before : At (many k) (rowOn k) (colOn k) (done + k) = turns k (reach-less (b .block) row col (suc (suc k)) (suc k) (omega arith) r) (omega arith) in
         ⊎-elim (λ c. down k c h before) (λ c. along k c h before) r
 
 -- one turn: so many bytes, in reach and within the budget, and d is what is drawn of them
-pub record Stretched (b : Blitter) (first : List ℕ) (ticks accesses budget : ℕ) (mem : List ℕ) (row col code done made count : ℕ) (d : Trace) : Type 0 where
-  pub going : Bursting b first ticks accesses budget mem row col code done made
+pub record Stretched (b : Blitter) (first : List ℕ) (ticks accesses budget : ℕ) (mem : List ℕ) (row col : ℕ) (note : Note) (done made count : ℕ) (d : Trace) : Type 0 where
+  pub going : Bursting b first ticks accesses budget mem row col note done made
   pub some : 0 < count
   pub reach : Reach (b .block) row col count
   pub room : done + count ≤ budget
-  pub drew : d ≡ traceOf (b .block) (stretchAt (b .block) row col count) mem code
+  pub drew : d ≡ traceOf (b .block) (stretchAt (b .block) row col count) mem note
 
 -- a place where a burst goes on
-pub placed-in : {b : Blitter} {first : List ℕ} {ticks accesses budget : ℕ} {mem : List ℕ} {p : Place} {code done made : ℕ}
-    → Bursting b first ticks accesses budget mem (p .row) (p .col) code done made → p ≡ placeAt (b .block) (p .row) (p .col) → Placed (b .block) p
+pub placed-in : {b : Blitter} {first : List ℕ} {ticks accesses budget : ℕ} {mem : List ℕ} {p : Place} {note : Note} {done made : ℕ}
+    → Bursting b first ticks accesses budget mem (p .row) (p .col) note done made → p ≡ placeAt (b .block) (p .row) (p .col) → Placed (b .block) p
 placed-in g e = record { at = e; row-in = g .place .row-in; col-in = g .place .col-in }
 
 -- as the program comes to it: the least of what is in reach and what is left of the budget
 pub stretched :
-    {b : Blitter} {first : List ℕ} {ticks accesses budget : ℕ} {mem : List ℕ} {row col code done made : ℕ} → Bursting b first ticks accesses budget mem row col code done made
+    {b : Blitter} {first : List ℕ} {ticks accesses budget : ℕ} {mem : List ℕ} {row col : ℕ} {note : Note} {done made : ℕ} → Bursting b first ticks accesses budget mem row col note done made
     → {reached count : ℕ} → Reach (b .block) row col reached → (0 < count) × (count ≤ reached) × (count ≤ budget - done)
-    → {bytes : Stretch} → bytes ≡ stretchAt (b .block) row col count → {d : Trace} → d ≡ traceOf (b .block) bytes mem code
-    → Stretched b first ticks accesses budget mem row col code done made count d
-stretched {b} {mem = mem} {row} {col} {code} g {reached} {count} r (some, few, room) s e =
+    → {bytes : Stretch} → bytes ≡ stretchAt (b .block) row col count → {d : Trace} → d ≡ traceOf (b .block) bytes mem note
+    → Stretched b first ticks accesses budget mem row col note done made count d
+stretched {b} {mem = mem} {row} {col} {note} g {reached} {count} r (some, few, room) s e =
     record {
       going = g;
       some = some;
       reach = reach-less (b .block) row col reached count few r;
       room = omega (arith, g .within);
-      drew = e ∙ ap (λ (x : Stretch). traceOf (b .block) x mem code) s;
+      drew = e ∙ ap (λ (x : Stretch). traceOf (b .block) x mem note) s;
     }
 
-module _ {b : Blitter} {first : List ℕ} {ticks accesses budget : ℕ} {mem : List ℕ} {row col code done made count : ℕ} {d : Trace}
-    (s : Stretched b first ticks accesses budget mem row col code done made count d) where
+module _ {b : Blitter} {first : List ℕ} {ticks accesses budget : ℕ} {mem : List ℕ} {row col : ℕ} {note : Note} {done made count : ℕ} {d : Trace}
+    (s : Stretched b first ticks accesses budget mem row col note done made count d) where
   -- the burst where so many ticks are done
   abbrev Now : Trace → ℕ → ℕ → ℕ → Type 0
   Now e row′ col′ done′ = At b first ticks accesses budget e row′ col′ done′
@@ -277,7 +279,7 @@ module _ {b : Blitter} {first : List ℕ} {ticks accesses budget : ℕ} {mem : L
 
   -- what is made with it
   abbrev sum : Trace
-  sum = trace (d .mem) (d .code) (made + d .accesses)
+  sum = trace (d .mem) (d .note) (made + d .accesses)
 
   whole : after (suc (count - 1)) ≡ sum
   unfolding traceOf
@@ -285,16 +287,16 @@ module _ {b : Blitter} {first : List ℕ} {ticks accesses budget : ℕ} {mem : L
       let from = sourceAddress (b .block) row col in
       let to = destAddress (b .block) row col in
       ap (λ (n : ℕ). after n) suc-is
-      ∙ ap (λ (a : ℕ). strokes (b .block) (sourceStep (b .block)) (destStep (b .block)) count from to (trace mem code a)) (sym (add-zero made))
-      ∙ strokes-from (b .block) (sourceStep (b .block)) (destStep (b .block)) count from to mem code made 0
-      ∙ ap (λ (z : Trace). trace (z .mem) (z .code) (made + z .accesses)) (sym (s .drew ∙ rw board-in refl))
+      ∙ ap (λ (a : ℕ). strokes (b .block) (sourceStep (b .block)) (destStep (b .block)) count from to (trace mem note a)) (sym (add-zero made))
+      ∙ strokes-from (b .block) (sourceStep (b .block)) (destStep (b .block)) count from to mem note made 0
+      ∙ ap (λ (z : Trace). trace (z .mem) (z .note) (made + z .accesses)) (sym (s .drew ∙ rw board-in refl))
 
   -- its accesses are few
   stretch-few : d .accesses ≤ 3 * count
   unfolding traceOf
   stretch-few =
       rw (s .drew, board-in)
-      (omega (arith, strokes-few (b .block) (sourceStep (b .block)) (destStep (b .block)) count (sourceAddress (b .block) row col) (destAddress (b .block) row col) (trace mem code 0)))
+      (omega (arith, strokes-few (b .block) (sourceStep (b .block)) (destStep (b .block)) count (sourceAddress (b .block) row col) (destAddress (b .block) row col) (trace mem note 0)))
 
   -- so the counts fit
   pub stretch-made : Fits w32 (made + d .accesses)
@@ -328,10 +330,10 @@ module _ {b : Blitter} {first : List ℕ} {ticks accesses budget : ℕ} {mem : L
   stretch-row h k = moved b first ticks accesses budget _ sum _ _ _ _ _ (done + count) all-drawn refl refl all-done (turn-row last in-budget h k)
 
   -- or the block's end
-  pub stretch-end : columnsOf (b .block) ≤ lastCol + 1 → rowsOf (b .block) ≤ lastRow + 1 → BurstTo b first ticks accesses budget (ended b (d .code)) (d .mem) (done + count) (made + d .accesses)
+  pub stretch-end : columnsOf (b .block) ≤ lastCol + 1 → rowsOf (b .block) ≤ lastRow + 1 → BurstTo b first ticks accesses budget (ended b (d .note)) (d .mem) (done + count) (made + d .accesses)
   stretch-end h k =
-      subst (λ (z : ℕ). BurstTo b first ticks accesses budget (ended b (d .code)) (d .mem) z (made + d .accesses)) all-done
-      (subst (λ (z : Trace). BurstTo b first ticks accesses budget (ended b (z .code)) (z .mem) (done + (count - 1) + 1) (z .accesses)) all-drawn
+      subst (λ (z : ℕ). BurstTo b first ticks accesses budget (ended b (d .note)) (d .mem) z (made + d .accesses)) all-done
+      (subst (λ (z : Trace). BurstTo b first ticks accesses budget (ended b (z .note)) (z .mem) (done + (count - 1) + 1) (z .accesses)) all-drawn
       (turn-end last in-budget h k))
 
   -- the same by the place of the last byte, and by a block's columns and rows as the program has them
@@ -347,5 +349,5 @@ module _ {b : Blitter} {first : List ℕ} {ticks accesses budget : ℕ} {mem : L
         pub burst-row : l .row + 1 < rows → Now sum (l .row + 1) 0 (done + count)
         burst-row k = rw e (stretch-row (omega (arith, ap (λ (p : Place). p .col) e)) (omega (arith, ap (λ (p : Place). p .row) e)))
 
-        pub burst-end : rows ≤ l .row + 1 → BurstTo b first ticks accesses budget (ended b (d .code)) (d .mem) (done + count) (made + d .accesses)
+        pub burst-end : rows ≤ l .row + 1 → BurstTo b first ticks accesses budget (ended b (d .note)) (d .mem) (done + count) (made + d .accesses)
         burst-end k = stretch-end (omega (arith, ap (λ (p : Place). p .col) e)) (omega (arith, ap (λ (p : Place). p .row) e))

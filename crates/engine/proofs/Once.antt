@@ -1,10 +1,8 @@
 -- The contract of a run admits one outcome only. Assumes nothing.
 use mathlib.Core.Path.{_≡_, sym, ap, _∙_}
-use Prim.Native.Nat.{ℕ}
-use native.Mathlib.Omega.{arith}
 use denote.Ref.{now}
 use Rattle.laws.proofs.Once.{OneAnswer, OneExit}
-use Rattle.refusal.proofs.Sheet.{number-one}
+use Rattle.refusal.proofs.Sheet.{number-one, done-refused, refused-done}
 use Rattle.refusal.specs.Sheet.{Told, done, refused}
 use Rattle.engine.specs.Run.{Counts, runTold}
 use Rattle.engine.specs.declared.RunReport.{RunReport}
@@ -21,8 +19,8 @@ countsIn (refused k i) = record { ticks = 0; accesses = 0 }
 -- what is told means one report
 pub run-one : (x y : RunReport) → runTold x ≡ runTold y → x ≡ y
 run-one (Ran t a) (Ran u b) e = λ i. Ran (countsIn (e i) .ticks) (countsIn (e i) .accesses)
-run-one (Ran t a) (Refused w) e = absurd (let z : _≡_ {A = ℕ} 0 1 = cc in omega arith)
-run-one (Refused v) (Ran u b) e = absurd (let z : _≡_ {A = ℕ} 0 1 = cc in omega arith)
+run-one (Ran t a) (Refused w) e = done-refused e
+run-one (Refused v) (Ran u b) e = refused-done e
 run-one (Refused v) (Refused w) e = ap Refused (number-one v w (cc))
 
 ran-one : (x y : BlitterRan) → x .blitter ≡ y .blitter → x .report ≡ y .report → x ≡ y

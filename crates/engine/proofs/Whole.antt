@@ -8,9 +8,10 @@ use native.Mathlib.Omega.{arith}
 use lib.Dec.{ltb}
 use borrow.Author.Tests.{ltb-true, ltb-false, eq-eqb, ne-eqb, lt-ltb, le-ltb}
 use Rattle.block.specs.Block.{columnsOf, rowsOf, blockAt}
-use Rattle.block.specs.Byte.{written, struckAt, rowAt, colAt, sizeOf, blockMem, blockCode}
+use Rattle.block.specs.Byte.{written, struckAt, rowAt, colAt, sizeOf, blockMem, blockNote}
 use Rattle.block.specs.declared.Block.{Block}
-use Rattle.block.proofs.Byte.{block-none, block-next, code-none, code-next}
+use Rattle.block.specs.declared.Note.{Note}
+use Rattle.block.proofs.Byte.{block-none, block-next, note-none, note-next}
 use Rattle.block.proofs.Place.{next-col, next-row, more-rows, no-column, no-row}
 use Rattle.block.proofs.Sizes.{columns-pos, rows-pos}
 use Rattle.blitter.specs.declared.Blitter.{Blitter}
@@ -25,18 +26,18 @@ size-pos k = mul-le-mul {n₁ = 1} {m₁ = 1} (rows-pos k) (columns-pos k)
 module _ (b : Blitter) where
   -- one byte tick
   busy-tock :
-      (row col code : ℕ) (mem : List ℕ)
-      → tock (machine (busyAt b row col code) mem) ≡ machine (movedOn (busyAt b row col code) (struckAt (b .block) mem row col code .code)) (written (b .block) row col mem)
+      (row col : ℕ) (note : Note) (mem : List ℕ)
+      → tock (machine (busyAt b row col note) mem) ≡ machine (movedOn (busyAt b row col note) (struckAt (b .block) mem row col note .note)) (written (b .block) row col mem)
   unfolding tock tickBlitter tickMemory byteTick
-  busy-tock row col code mem = refl
+  busy-tock row col note mem = refl
 
-  module _ (code next n : ℕ) where
+  module _ (note next : Note) (n : ℕ) where
     -- the next byte
-    next-on : suc n < sizeOf (b .block) → movedOn (busyOn b code n) next ≡ busyOn b next (suc n)
+    next-on : suc n < sizeOf (b .block) → movedOn (busyOn b note n) next ≡ busyOn b next (suc n)
     unfolding movedOn
     next-on l = by (ltb (colAt (b .block) n + 1) (columnsOf (b .block))) refl
       where
-        by : (t : Bool) → ltb (colAt (b .block) n + 1) (columnsOf (b .block)) ≡ t → movedOn (busyOn b code n) next ≡ busyOn b next (suc n)
+        by : (t : Bool) → ltb (colAt (b .block) n + 1) (columnsOf (b .block)) ≡ t → movedOn (busyOn b note n) next ≡ busyOn b next (suc n)
         by true e =
             let p = next-col (columnsOf (b .block)) (columns-pos (b .block)) n (ltb-true _ _ e) in
             rw (e, p .0, p .1)
@@ -46,7 +47,7 @@ module _ (b : Blitter) where
             rw (e, lt-ltb _ _ (more-rows (columnsOf (b .block)) (columns-pos (b .block)) (rowsOf (b .block)) n l h), p .0, p .1)
 
     -- the end
-    last-on : suc n ≡ sizeOf (b .block) → movedOn (busyOn b code n) next ≡ ended b next
+    last-on : suc n ≡ sizeOf (b .block) → movedOn (busyOn b note n) next ≡ ended b next
     unfolding movedOn ended
     last-on l =
         rw (
@@ -54,40 +55,40 @@ module _ (b : Blitter) where
           le-ltb _ _ (no-row (columnsOf (b .block)) (columns-pos (b .block)) (rowsOf (b .block)) n l),
         )
 
-  module _ (code : ℕ) (mem : List ℕ) where
+  module _ (note : Note) (mem : List ℕ) where
     -- the tick of the n-th byte, and what it makes of the blitter
     step-on :
-        (n : ℕ) (b′ : Blitter) → after n (machine (busyOn b code 0) mem) ≡ machine (busyOn b (blockCode (b .block) n mem code) n) (blockMem (b .block) n mem)
-        → movedOn (busyOn b (blockCode (b .block) n mem code) n) (blockCode (b .block) (suc n) mem code) ≡ b′
-        → after (suc n) (machine (busyOn b code 0) mem) ≡ machine b′ (blockMem (b .block) (suc n) mem)
+        (n : ℕ) (b′ : Blitter) → after n (machine (busyOn b note 0) mem) ≡ machine (busyOn b (blockNote (b .block) n mem note) n) (blockMem (b .block) n mem)
+        → movedOn (busyOn b (blockNote (b .block) n mem note) n) (blockNote (b .block) (suc n) mem note) ≡ b′
+        → after (suc n) (machine (busyOn b note 0) mem) ≡ machine b′ (blockMem (b .block) (suc n) mem)
     step-on n b′ before e =
         after-suc n _
         ∙ ap tock before
-        ∙ busy-tock (rowAt (b .block) n) (colAt (b .block) n) (blockCode (b .block) n mem code) (blockMem (b .block) n mem)
-        ∙ sym (λ i. machine (movedOn (busyOn b (blockCode (b .block) n mem code) n) (code-next (b .block) mem n code i)) (block-next (b .block) mem n i))
+        ∙ busy-tock (rowAt (b .block) n) (colAt (b .block) n) (blockNote (b .block) n mem note) (blockMem (b .block) n mem)
+        ∙ sym (λ i. machine (movedOn (busyOn b (blockNote (b .block) n mem note) n) (note-next (b .block) mem n note i)) (block-next (b .block) mem n i))
         ∙ ap (λ (x : Blitter). machine x (blockMem (b .block) (suc n) mem)) e
 
     -- a busy blitter after n bytes of its block
     pub during :
         (n : ℕ) → n < sizeOf (b .block)
-        → after n (machine (busyOn b code 0) mem) ≡ machine (busyOn b (blockCode (b .block) n mem code) n) (blockMem (b .block) n mem)
-    during zero l = after-none _ ∙ sym (λ i. machine (busyOn b (code-none (b .block) mem code i) 0) (block-none (b .block) mem i))
-    during (suc n) l = step-on n _ (during n (omega arith)) (next-on (blockCode (b .block) n mem code) (blockCode (b .block) (suc n) mem code) n l)
+        → after n (machine (busyOn b note 0) mem) ≡ machine (busyOn b (blockNote (b .block) n mem note) n) (blockMem (b .block) n mem)
+    during zero l = after-none _ ∙ sym (λ i. machine (busyOn b (note-none (b .block) mem note i) 0) (block-none (b .block) mem i))
+    during (suc n) l = step-on n _ (during n (omega arith)) (next-on (blockNote (b .block) n mem note) (blockNote (b .block) (suc n) mem note) n l)
 
     -- and after all of them
     pub whole :
-        after (sizeOf (b .block)) (machine (busyOn b code 0) mem)
-        ≡ machine (ended b (blockCode (b .block) (sizeOf (b .block)) mem code)) (blockMem (b .block) (sizeOf (b .block)) mem)
+        after (sizeOf (b .block)) (machine (busyOn b note 0) mem)
+        ≡ machine (ended b (blockNote (b .block) (sizeOf (b .block)) mem note)) (blockMem (b .block) (sizeOf (b .block)) mem)
     whole = at (sizeOf (b .block)) refl
       where
-        at : (n : ℕ) → n ≡ sizeOf (b .block) → after n (machine (busyOn b code 0) mem) ≡ machine (ended b (blockCode (b .block) n mem code)) (blockMem (b .block) n mem)
+        at : (n : ℕ) → n ≡ sizeOf (b .block) → after n (machine (busyOn b note 0) mem) ≡ machine (ended b (blockNote (b .block) n mem note)) (blockMem (b .block) n mem)
         at zero e = absurd (omega (arith, size-pos (b .block), e))
-        at (suc n) e = step-on n _ (during n (omega arith)) (last-on (blockCode (b .block) n mem code) (blockCode (b .block) (suc n) mem code) n e)
+        at (suc n) e = step-on n _ (during n (omega arith)) (last-on (blockNote (b .block) n mem note) (blockNote (b .block) (suc n) mem note) n e)
 
 -- a machine whose next block is known
 module _ (s : Machine) (k : Block) (load : s .blitter .flags ≡ 1) (known : blockAt (s .mem) (s .blitter .list) ≡ k) where
   -- its load
-  pub loaded : tock s ≡ machine (busyOn (holding k (s .blitter)) (s .blitter .code) 0) (s .mem)
+  pub loaded : tock s ≡ machine (busyOn (holding k (s .blitter)) (s .blitter .note) 0) (s .mem)
   unfolding tock tickBlitter tickMemory loadTick holding
   loaded =
       rw (ne-eqb (s .blitter .flags) 0 (omega arith), eq-eqb (s .blitter .flags) 1 load, zero-div (columnsOf k), zero-mod (columnsOf k))
@@ -96,12 +97,12 @@ module _ (s : Machine) (k : Block) (load : s .blitter .flags ≡ 1) (known : blo
   -- after n bytes of the block
   pub block-busy :
       (n : ℕ) → n < sizeOf k
-      → after (suc n) s ≡ machine (busyOn (holding k (s .blitter)) (blockCode k n (s .mem) (s .blitter .code)) n) (blockMem k n (s .mem))
+      → after (suc n) s ≡ machine (busyOn (holding k (s .blitter)) (blockNote k n (s .mem) (s .blitter .note)) n) (blockMem k n (s .mem))
   unfolding holding
-  block-busy n l = after-first n s ∙ ap (after n) loaded ∙ during (holding k (s .blitter)) (s .blitter .code) (s .mem) n l
+  block-busy n l = after-first n s ∙ ap (after n) loaded ∙ during (holding k (s .blitter)) (s .blitter .note) (s .mem) n l
 
   -- from its load to its end
   pub block-step :
-      after (suc (sizeOf k)) s ≡ machine (ended (holding k (s .blitter)) (blockCode k (sizeOf k) (s .mem) (s .blitter .code))) (blockMem k (sizeOf k) (s .mem))
+      after (suc (sizeOf k)) s ≡ machine (ended (holding k (s .blitter)) (blockNote k (sizeOf k) (s .mem) (s .blitter .note))) (blockMem k (sizeOf k) (s .mem))
   unfolding holding
-  block-step = after-first (sizeOf k) s ∙ ap (after (sizeOf k)) loaded ∙ whole (holding k (s .blitter)) (s .blitter .code) (s .mem)
+  block-step = after-first (sizeOf k) s ∙ ap (after (sizeOf k)) loaded ∙ whole (holding k (s .blitter)) (s .blitter .note) (s .mem)

@@ -10,10 +10,11 @@ use Rattle.vram.specs.Memory.{goodLength}
 use Rattle.step.specs.Step.{acrossOf, downOf}
 use Rattle.block.specs.Block.{zoomX, zoomY, patternOf, columnsOf, rowsOf, destAddress, sourceAddress}
 use Rattle.block.specs.declared.Block.{Block}
+use Rattle.block.specs.declared.Note.{Note}
 use Rattle.stretch.specs.declared.Stretch.{Stretch}
 use Rattle.stretch.specs.Flat.{levelOf}
 use Rattle.blitter.specs.declared.Blitter.{Blitter}
-use Rattle.blitter.specs.State.{soundBlitter}
+use Rattle.blitter.specs.State.{soundBlitter, withWork, withNote}
 use Rattle.engine.specs.declared.Place.{Place}
 use Rattle.engine.specs.Tick.{ended}
 use Rattle.engine.specs.Run.{runFor, progress}
@@ -90,11 +91,11 @@ stretchAt b row col count =
     record { from = sourceAddress b row col; along = sourceStep b; to = destAddress b row col; step = destStep b; count = count }
 
 -- the blitter at a place that a burst has come to, or behind the block's last row
-abbrev pub leftAt : Blitter → ℕ → ℕ → ℕ → Blitter
-leftAt b row col code =
+abbrev pub leftAt : Blitter → ℕ → ℕ → Note → Blitter
+leftAt b row col note =
     cond (leb (rowsOf (b .block)) row)
-    (ended b code)
-    (record { irqe = b .irqe; irqf = b .irqf; list = b .list; flags = b .flags; code = code; block = b .block; row = row; col = col })
+    (ended b note)
+    (withWork (b .flags) (b .block) row col (withNote note b))
 
 -- what a burst is handed: a busy blitter, and budget left
 pub record BurstFrom (b : Blitter) (mem : List ℕ) (ticks accesses budget : ℕ) : Type 0 where

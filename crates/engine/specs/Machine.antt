@@ -3,7 +3,9 @@ use mathlib.Core.List.{List}
 use Prim.Native.Nat.{ℕ, zero, suc, _+_, _%_}
 use Rattle.block.specs.Byte.{rowAt, colAt}
 use Rattle.block.specs.declared.Block.{Block}
+use Rattle.block.specs.declared.Note.{Note}
 use Rattle.blitter.specs.declared.Blitter.{Blitter}
+use Rattle.blitter.specs.State.{withWork, withList}
 use Rattle.engine.specs.Tick.{busyAt, tickBlitter, tickMemory}
 
 pub record Machine : Type 0 where
@@ -24,18 +26,8 @@ after (suc n) s = tock (after n s)
 
 -- a blitter that has loaded block k: the load tick, with the block named
 unfoldable pub holding : Block → Blitter → Blitter
-holding k b =
-    record {
-      irqe = b .irqe;
-      irqf = b .irqf;
-      list = (b .list + 21) % 524288;
-      flags = 2;
-      code = b .code;
-      block = k;
-      row = 0;
-      col = 0;
-    }
+holding k b = withWork 2 k 0 0 (withList ((b .list + 21) % 524288) b)
 
 -- busy with the n-th byte of its block
-abbrev pub busyOn : Blitter → ℕ → ℕ → Blitter
-busyOn b code n = busyAt b (rowAt (b .block) n) (colAt (b .block) n) code
+abbrev pub busyOn : Blitter → Note → ℕ → Blitter
+busyOn b note n = busyAt b (rowAt (b .block) n) (colAt (b .block) n) note

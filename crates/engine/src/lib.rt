@@ -9,6 +9,7 @@ ghost use Rattle.engine.specs.Run.{runFor, progress, begun, runTold, eng
 ghost use Rattle.engine.specs.Engine.{placeAt, tallOf, sourceStep, destStep, aheadRow, aheadCol, afterRow, afterCol, levelBlock, stretchAt, leftAt, Placed, Reach, BurstFrom, BurstTo};
 use blitter::Blitter;
 use block::Block;
+use block::Note;
 use refusal::Refusal;
 use stretch::Stretch;
 use stretch::flat;
@@ -219,15 +220,15 @@ fn load(mut blitter: Blitter, mem: &[u8]) -> Blitter
 }
 
 // After a block's last byte: the next block, or the list's end with its interrupt.
-fn end(mut blitter: Blitter, code: u8) -> Blitter
-    ensures { λ r. ⌜ r ≡ ended blitter code ⌝ }
+fn end(mut blitter: Blitter, note: Note) -> Blitter
+    ensures { λ r. ⌜ r ≡ ended blitter note ⌝ }
 {
     let block = blitter.block;
     let none = Block::none();
     blitter.block = none;
     blitter.row = 0;
     blitter.col = 0;
-    blitter.code = code;
+    blitter.note = note;
     if block.next() {
         blitter.flags = 1;
         return blitter;
@@ -249,14 +250,14 @@ fn burst_each(mut blitter: Blitter, mem: &mut [u8], ticks: u32, accesses: u32, b
     let columns = block.columns() as u32;
     let rows = block.rows() as u32;
     let mut place = place_of(block, blitter.row, blitter.col);
-    let mut code = blitter.code;
+    let mut note = blitter.note;
     let mut done = ticks;
     let mut made = accesses;
     while done < budget {
         let count = least(place.reach(block), budget - done);
         let bytes = place.stretch(block, count);
-        let drawn = stretch::draw(block, mem, bytes, code);
-        code = drawn.code;
+        let drawn = stretch::draw(block, mem, bytes, note);
+        note = drawn.note;
         made += drawn.accesses;
         done += count;
         place = place.ahead(block, count - 1);
@@ -265,7 +266,7 @@ fn burst_each(mut blitter: Blitter, mem: &mut [u8], ticks: u32, accesses: u32, b
         } else if place.row + 1 < rows {
             place = place.next_row(block);
         } else {
-            let blitter = end(blitter, code);
+            let blitter = end(blitter, note);
             return Sofar {
                 blitter,
                 ticks: done,
@@ -275,7 +276,7 @@ fn burst_each(mut blitter: Blitter, mem: &mut [u8], ticks: u32, accesses: u32, b
     }
     blitter.row = place.row as u16;
     blitter.col = place.col as u16;
-    blitter.code = code;
+    blitter.note = note;
     Sofar {
         blitter,
         ticks: done,
@@ -284,13 +285,13 @@ fn burst_each(mut blitter: Blitter, mem: &mut [u8], ticks: u32, accesses: u32, b
 }
 
 // The blitter at a place that a burst has come to, or behind the block's last byte.
-fn leave(mut blitter: Blitter, place: Place, code: u8, ticks: u32, accesses: u32) -> Sofar
+fn leave(mut blitter: Blitter, place: Place, note: Note, ticks: u32, accesses: u32) -> Sofar
     requires { ⌜ (place .row < 65536) × (place .col < 65536) ⌝ }
-    ensures { λ r. ⌜ (r .blitter ≡ leftAt blitter (place .row) (place .col) code) × (r .ticks ≡ ticks) × (r .accesses ≡ accesses) ⌝ }
+    ensures { λ r. ⌜ (r .blitter ≡ leftAt blitter (place .row) (place .col) note) × (r .ticks ≡ ticks) × (r .accesses ≡ accesses) ⌝ }
 {
     let block = blitter.block;
     if block.rows() as u32 <= place.row {
-        let blitter = end(blitter, code);
+        let blitter = end(blitter, note);
         return Sofar {
             blitter,
             ticks,
@@ -299,7 +300,7 @@ fn leave(mut blitter: Blitter, place: Place, code: u8, ticks: u32, accesses: u32
     }
     blitter.row = place.row as u16;
     blitter.col = place.col as u16;
-    blitter.code = code;
+    blitter.note = note;
     Sofar {
         blitter,
         ticks,
@@ -308,7 +309,7 @@ fn leave(mut blitter: Blitter, place: Place, code: u8, ticks: u32, accesses: u32
 }
 
 // The byte ticks of one block whose stretches are flat, each up to a wrap. Its loops stand apart from those of
-// `burst_each`, or the compiler runs out of registers in both.
+// `burst_each`, so that blocks that are not flat keep the loop they had (measured: docs/SPEED.md).
 fn burst_flat(blitter: Blitter, mem: &mut [u8], ticks: u32, accesses: u32, budget: u32) -> Sofar
     requires { ⌜ BurstFrom blitter (now mem) ticks accesses budget × (levelBlock (blitter .block) ≡ true) ⌝ }
     ensures { λ r. ⌜ BurstTo blitter (now (mem .entry)) ticks accesses budget (r .blitter) (now (mem .exit)) (r .ticks) (r .accesses) ⌝ }
@@ -316,19 +317,19 @@ fn burst_flat(blitter: Blitter, mem: &mut [u8], ticks: u32, accesses: u32, budge
     let block = blitter.block;
     let rows = block.rows() as u32;
     let mut place = place_of(block, blitter.row, blitter.col);
-    let mut code = blitter.code;
+    let mut note = blitter.note;
     let mut done = ticks;
     let mut made = accesses;
     while (place.row < rows) & (done < budget) {
         let most = least(place.reach(block), budget - done);
         let bytes = place.stretch(block, most);
-        let part = flat::draw(block, mem, bytes, code);
-        code = part.code;
+        let part = flat::draw(block, mem, bytes, note);
+        note = part.note;
         made += part.accesses;
         done += part.count;
         place = place.after(block, part.count);
     }
-    leave(blitter, place, code, done, made)
+    leave(blitter, place, note, done, made)
 }
 
 // Whether a block's stretches are drawn at once: they are flat, and the longest has 8 bytes or more. Shorter ones are

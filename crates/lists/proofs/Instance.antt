@@ -3,8 +3,8 @@
 use mathlib.Core.Path.{_≡_, refl, sym, ap, _∙_, subst}
 use mathlib.Core.Bool.{true, false}
 use mathlib.Core.List.{List, [], _∷_}
-use Prim.Native.Nat.{ℕ, zero, suc, _+_, _*_, _%_, _<_, _≤_}
-use native.Mathlib.Nat.{add-assoc, mod-eq-of-lt}
+use Prim.Native.Nat.{ℕ, zero, suc, _+_, _*_, _<_, _≤_}
+use native.Mathlib.Nat.{add-assoc}
 use native.Mathlib.Omega.{arith}
 use lib.Dec.{ltb, lit<, lit≤}
 use lib.ListN.{length, getD}
@@ -12,11 +12,11 @@ use lib.Seq.{getD-set-same}
 use borrow.Author.Tests.{lt-ltb}
 use Rattle.vram.specs.Memory.{goodLength, place, byteAt, cellAt}
 use Rattle.vram.specs.Install.{installMemory}
-use Rattle.vram.proofs.Length.{shortest}
+use Rattle.vram.proofs.Length.{shortest, own-place}
 use Rattle.vram.proofs.Blank.{blank, on-blank-long, on-blank-byte, on-blank-other}
 use Rattle.block.specs.Block.{sideAt, blockAt, noSide, noneSide, noBlock, isNone, columnsOf, rowsOf, nextOf, destAddress}
 use Rattle.block.specs.Fold.{each}
-use Rattle.block.specs.Byte.{readsSource, sourceByte, written, sizeOf, blockMem}
+use Rattle.block.specs.Byte.{readsSource, sourceBy, writtenBy, sizeOf, blockMem}
 use Rattle.block.proofs.Byte.{block-length}
 use Rattle.mode.specs.Mode.{writesIn, valueIn}
 use Rattle.block.specs.declared.Block.{Block}
@@ -56,16 +56,13 @@ laid : (j : ℕ) → j < 42 → byteAt memory 524270 j ≡ getD bytes j 0
 unfolding memory
 laid = on-blank-byte bytes 524270 (lit≤ tt) (lit≤ tt)
 
-small-place : (n : ℕ) → n < 42 → place 42 n ≡ n
-small-place n l = ap (λ (z : ℕ). z % 42) (mod-eq-of-lt {n = n} {m = 524288} (omega arith)) ∙ mod-eq-of-lt l
-
 block-is : (k : ℕ) → k < 2 → nthBlock memory 524270 k ≡ nthBlock bytes 0 k
 block-is k l =
     block-same memory bytes (524270 + 21 * k) (0 + 21 * k)
     (λ j q.
     ap (cellAt memory) (add-assoc 524270 (21 * k) j)
     ∙ laid (21 * k + j) (omega arith)
-    ∙ sym (ap (λ (n : ℕ). getD bytes n 0) (ap (place 42) (let e : 0 + 21 * k + j ≡ 21 * k + j = omega arith in e) ∙ small-place (21 * k + j) (omega arith))))
+    ∙ sym (ap (λ (n : ℕ). getD bytes n 0) (ap (place 42) (let e : 0 + 21 * k + j ≡ 21 * k + j = omega arith in e) ∙ own-place 42 (21 * k + j) (omega arith) (lit≤ tt))))
 
 first-is : nthBlock memory 524270 0 ≡ nthBlock bytes 0 0
 first-is = block-is 0 (lit< tt)
@@ -145,7 +142,7 @@ zero-before = on-blank-other bytes 524270 (lit≤ tt) (lit≤ tt) 12288 (lit< tt
     none i l e = omega arith
 
 two-behind : (x : List ℕ) → length x ≡ 16384 → getD (blockMem (nthBlock bytes 0 1) 1 x) 12288 0 ≡ 2
-unfolding blockMem each written writesIn valueIn sourceByte readsSource blockAt sideAt columnsOf destAddress sideAddress stepY stepX signed wrap19
+unfolding blockMem each writtenBy writesIn valueIn sourceBy readsSource blockAt sideAt columnsOf destAddress sideAddress stepY stepX signed wrap19
 two-behind x long = rw long (getD-set-same x 12288 2 0 (omega (arith, long)))
 
 two-after : getD (listMemory memory 524270 2) 12288 0 ≡ 2

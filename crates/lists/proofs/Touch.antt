@@ -56,7 +56,7 @@ module _ (b : Blitter) (mem : List ℕ) (s : Sound b) where
 
       by : (t : Bool) → eqb i at ≡ t → Differs mem (written (b .block) (b .row) (b .col) mem) i → i ≡ at
       by true e d = eqb-true i at e
-      by false e d = absurd (d (written-other (b .block) (b .row) (b .col) mem i (eqb-false i at e)))
+      by false e d = absurd (d (written-other (b .block) _ _ mem i (eqb-false i at e)))
 
 -- A run, tick by tick.
 module _ {s : Bench} (r : Ready s) where

@@ -1,23 +1,23 @@
 -- Both laws at two lists in one memory, with every number written out. The first draws 3 and 5 onto one cell, which holds 9; the second, with AND 0, draws 77 onto that cell.
 -- Memory is 16,384 zeros but for 45 bytes from 524,270 on, over the top: the first list, the second, which is at 3, and the bytes 3, 5 and 9 at 24, 25 and 26. Assumes nothing.
 use mathlib.Core.Path.{_≡_, refl, sym, ap, _∙_, subst}
-use mathlib.Core.Bool.{true, false, true≢false}
+use mathlib.Core.Bool.{true, false}
 use mathlib.Core.List.{List, [], _∷_}
-use Prim.Native.Nat.{ℕ, _+_, _%_, _<_}
-use native.Mathlib.Nat.{mod-eq-of-lt}
+use Prim.Native.Nat.{ℕ, _+_, _<_}
 use native.Mathlib.Omega.{arith}
 use lib.Bits.{bitXor}
 use lib.Dec.{lit<, lit≤}
 use lib.ListN.{length, getD, length-set}
 use lib.Seq.{getD-set-same}
+use Rattle.laws.proofs.Choice.{true-false}
 use Rattle.laws.proofs.Xor.{xorAt, set-xor}
 use Rattle.vram.specs.Memory.{goodLength, place, byteAt, cellAt}
 use Rattle.vram.specs.Install.{installMemory}
-use Rattle.vram.proofs.Length.{shortest}
+use Rattle.vram.proofs.Length.{shortest, own-place}
 use Rattle.vram.proofs.Blank.{blank, on-blank-long, on-blank-byte}
 use Rattle.block.specs.Block.{sideAt, blockAt, columnsOf, rowsOf, patternOf, modeOf, nextOf, destAddress, sourceAddress}
 use Rattle.block.specs.Fold.{each}
-use Rattle.block.specs.Byte.{readsSource, sourceByte, sizeOf, destOf, sourceOf}
+use Rattle.block.specs.Byte.{readsSource, sourceBy, sizeOf, destOf, sourceOf}
 use Rattle.block.specs.declared.Block.{Block}
 use Rattle.block.proofs.Bytes.{block-same}
 use Rattle.step.specs.Step.{signed, stepX, stepY, wrap19, sideAddress}
@@ -59,7 +59,7 @@ abbrev second : Block
 second = blockAt bytes 21
 
 in-bytes : (n : ℕ) → n < 45 → cellAt bytes n ≡ getD bytes n 0
-in-bytes n l = ap (λ (p : ℕ). getD bytes p 0) (ap (λ (z : ℕ). z % 45) (mod-eq-of-lt {n = n} {m = 524288} (omega arith)) ∙ mod-eq-of-lt l)
+in-bytes n l = ap (λ (p : ℕ). getD bytes p 0) (own-place 45 n l (lit≤ tt))
 
 first-is : blockAt memory 524270 ≡ first
 first-is = block-same memory bytes 524270 0 (λ j l. laid j (omega arith) ∙ same j ∙ sym (in-bytes (0 + j) (omega arith)))
@@ -106,7 +106,7 @@ first-below n l r = rw memory-long (omega arith)
 
 second-below : Below26 second
 unfolding readsSource blockAt
-second-below n l r = absurd (true≢false (sym r))
+second-below n l r = true-false (sym r)
 
 -- what is known of the list at a: destinations on 26, sources below it, its own bytes elsewhere
 record Known (a : ℕ) : Type 0 where
@@ -160,11 +160,11 @@ other-ends = record { sound = boardAt-sound 3 (lit< tt); address = refl; odd = r
 
 -- what the first reads, and so what it does
 reads-3 : valueOf memory first 0 ≡ 3
-unfolding sourceByte readsSource blockAt sideAt columnsOf patternOf sourceAddress sideAddress stepY stepX signed wrap19
+unfolding sourceBy readsSource blockAt sideAt columnsOf patternOf sourceAddress sideAddress stepY stepX signed wrap19
 reads-3 = rw memory-long (rw (cell-is 24 (lit< tt)))
 
 reads-5 : valueOf memory first 1 ≡ 5
-unfolding sourceByte readsSource blockAt sideAt columnsOf patternOf sourceAddress sideAddress stepY stepX signed wrap19
+unfolding sourceBy readsSource blockAt sideAt columnsOf patternOf sourceAddress sideAddress stepY stepX signed wrap19
 reads-5 = rw memory-long (rw (cell-is 25 (lit< tt)))
 
 first-does : xors memory 524270 memory ≡ xorAt 26 5 (xorAt 26 3 memory)

@@ -10,7 +10,7 @@ use Rattle.vram.specs.Memory.{place}
 use Rattle.mode.specs.Mode.{writesIn, valueIn}
 use Rattle.block.specs.Fold.{each}
 use Rattle.block.specs.Block.{blockAt, modeOf}
-use Rattle.block.specs.Byte.{readsSource, sourceByte, destByte, written, rowAt, colAt, sizeOf, destOf, sourceOf, blockMem}
+use Rattle.block.specs.Byte.{readsSource, sourceBy, sourceByte, writtenBy, written, rowAt, colAt, sizeOf, destOf, sourceOf, blockMem}
 use Rattle.block.specs.declared.Block.{Block}
 use Rattle.block.proofs.Byte.{place-length, dest-same, source-same, value-same, block-length, block-other}
 use Rattle.block.proofs.Bytes.{block-same}
@@ -23,12 +23,12 @@ valueOf mem k n = sourceByte k mem (rowAt k n) (colAt k n)
 
 -- one byte of mode 5
 xor-byte : (k : Block) (n : ℕ) (mem : List ℕ) → modeOf k ≡ 5 → written k (rowAt k n) (colAt k n) mem ≡ xorAt (destOf mem k n) (valueOf mem k n) mem
-unfolding written destOf destByte writesIn valueIn
+unfolding writtenBy destOf writesIn valueIn
 xor-byte k n mem five = rw five (set-xor _ _ mem)
 
 -- where no source is read, s does not depend on memory
 unread : (x y : List ℕ) (k : Block) (n : ℕ) → readsSource k ≡ false → valueOf x k n ≡ valueOf y k n
-unfolding sourceByte
+unfolding sourceBy
 unread x y k n e = rw e
 
 -- a memory in which the list at z stands as in another: its block, and what the block makes of its sources

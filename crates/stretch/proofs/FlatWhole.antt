@@ -1,6 +1,6 @@
 -- A whole flat stretch, by the places of its bytes, in each kind of loop. Assumes nothing.
 use mathlib.Core.Path.{_≡_, refl, sym, ap, _∙_}
-use mathlib.Core.Bool.{Bool, true, false, cond, _||_}
+use mathlib.Core.Bool.{Bool, true, false, _||_}
 use mathlib.Core.List.{List}
 use Prim.Native.Nat.{ℕ, _+_, _*_, _≤_, _<_}
 use native.Mathlib.Nat.{zero-add}
@@ -9,6 +9,7 @@ use lib.Bits.{bitAnd, bitXor}
 use lib.Dec.{eqb, leb, ltb}
 use lib.ListN.{length, getD}
 use borrow.Author.Tests.{eqb-true, eqb-false, lt-leb, le-ltb}
+use Rattle.laws.proofs.Choice.{true-false}
 use Rattle.vram.specs.Memory.{goodLength, place}
 use Rattle.block.specs.Block.{modeOf}
 use Rattle.block.specs.Byte.{readsSource}
@@ -27,10 +28,7 @@ unread-0 b z = rw z
 
 -- a place apart from those written is none of them
 none-of : (i at count : ℕ) → (ltb i at || leb (at + count) i) ≡ true → (k : ℕ) → k < count → i ≡ at + k → ⊥
-none-of i at count t k h e = absurd (clash (rw (le-ltb i at (omega arith), lt-leb (at + count) i (omega arith)) at t))
-  where
-    clash : false ≡ true → ⊥
-    clash f = let z : _≡_ {A = ℕ} 0 1 = ap (λ (x : Bool). cond x 1 0) f in omega arith
+none-of i at count t k h e = true-false (sym (rw (le-ltb i at (omega arith), lt-leb (at + count) i (omega arith)) at t))
 
 module _ (b : Block) (s : Stretch) (mem : List ℕ) (g : goodLength (length mem) ≡ true) (f : Flat (length mem) b s) (at : ℕ) (p : at ≡ place (length mem) (s .to)) where
   abbrev L : ℕ
@@ -47,17 +45,17 @@ module _ (b : Block) (s : Stretch) (mem : List ℕ) (g : goodLength (length mem)
   Whole mem′ accesses = Makes b (s .along) (s .step) (s .count) (s .from) (s .to) mem mem′ accesses
 
   by-address : (along from : ℕ) (mem′ : List ℕ) (accesses : ℕ) → along ≡ s .along → place L from ≡ place L (s .from) → Makes b along 1 (s .count) from at mem mem′ accesses → Whole mem′ accesses
-  by-address along from mem′ accesses a q e code =
-      e code
-      ∙ by-places b 1 along (s .count) from (s .from) at (s .to) (trace mem code 0) g q here
-      ∙ ap (λ (x : ℕ). strokes b x 1 (s .count) (s .from) (s .to) (trace mem code 0)) a
-      ∙ ap (λ (x : ℕ). strokes b (s .along) x (s .count) (s .from) (s .to) (trace mem code 0)) (sym (one-step b (s .along) (s .step) (f .level)))
+  by-address along from mem′ accesses a q e note =
+      e note
+      ∙ by-places b 1 along (s .count) from (s .from) at (s .to) (trace mem note 0) g q here
+      ∙ ap (λ (x : ℕ). strokes b x 1 (s .count) (s .from) (s .to) (trace mem note 0)) a
+      ∙ ap (λ (x : ℕ). strokes b (s .along) x (s .count) (s .from) (s .to) (trace mem note 0)) (sym (one-step b (s .along) (s .step) (f .level)))
 
   module _ (m : modeOf b ≡ 0) where
     pub by-fill : b .andmask ≡ 0 → (mem′ : List ℕ) → mem′ ≡ painted (b .xormask) mem at (s .count) → Whole mem′ (s .count)
     by-fill z mem′ e =
         by-address (s .along) (s .from) mem′ (s .count) refl refl
-        (λ code. ap (λ (l : List ℕ). trace l code (s .count)) e ∙ ap (trace _ code) (sym (zero-add (s .count))) ∙ fills b m z (s .along) (s .count) mem (s .from) at code 0 g at-in)
+        (λ note. ap (λ (l : List ℕ). trace l note (s .count)) e ∙ ap (trace _ note) (sym (zero-add (s .count))) ∙ fills b m z (s .along) (s .count) mem (s .from) at note 0 g at-in)
 
     module _ (z : b .andmask ≡ 0 → ⊥) (from : ℕ) (q : (b .andmask ≡ 0 → ⊥) → from ≡ place L (s .from)) where
       there : place L from ≡ place L (s .from)
@@ -72,10 +70,10 @@ module _ (b : Block) (s : Stretch) (mem : List ℕ) (g : goodLength (length mem)
           let still : s .along ≡ 0 = omega (arith, near b (s .along) (s .step) (f .level) m z) in
           let at-place : place L from ≡ from = there ∙ sym (q z) in
           by-address 0 from mem′ (2 * s .count) (sym still) there
-          (λ code.
-          ap (λ (l : List ℕ). trace l code (2 * s .count)) e
-          ∙ ap (trace _ code) (sym (zero-add (2 * s .count)))
-          ∙ repeats b m z (s .count) mem from at code 0 _ g at-in (ap (λ (i : ℕ). bitXor (bitAnd (getD mem i 0) (b .andmask)) (b .xormask)) at-place) (λ k h l. none-of from at (s .count) t k h (sym at-place ∙ l)))
+          (λ note.
+          ap (λ (l : List ℕ). trace l note (2 * s .count)) e
+          ∙ ap (trace _ note) (sym (zero-add (2 * s .count)))
+          ∙ repeats b m z (s .count) mem from at note 0 _ g at-in (ap (λ (i : ℕ). bitXor (bitAnd (getD mem i 0) (b .andmask)) (b .xormask)) at-place) (λ k h l. none-of from at (s .count) t k h (sym at-place ∙ l)))
 
   -- modes 1 to 6
   pub by-mix : (modeOf b ≡ 0 → ⊥) → (from : ℕ) → ((b .andmask ≡ 0 → ⊥) → from ≡ place L (s .from)) → (mem′ : List ℕ) (accesses : ℕ)
@@ -83,7 +81,7 @@ module _ (b : Block) (s : Stretch) (mem : List ℕ) (g : goodLength (length mem)
   by-mix m from q mem′ accesses e = by-test (eqb (b .andmask) 0) refl
     where
       by-test : (t : Bool) → eqb (b .andmask) 0 ≡ t → Whole mem′ accesses
-      by-test true t = by-address (s .along) (s .from) mem′ accesses refl refl (λ code. e code ∙ unread b 1 (unread-0 b (eqb-true (b .andmask) 0 t)) 1 (s .along) (s .count) from (s .from) at (trace mem code 0))
+      by-test true t = by-address (s .along) (s .from) mem′ accesses refl refl (λ note. e note ∙ unread b 1 (unread-0 b (eqb-true (b .andmask) 0 t)) 1 (s .along) (s .count) from (s .from) at (trace mem note 0))
       by-test false t =
           let z = eqb-false (b .andmask) 0 t in
           by-address 1 from mem′ accesses (sym (one-along b (s .along) (s .step) (f .level) m z)) (rw (q z) (place-place L g (s .from))) e

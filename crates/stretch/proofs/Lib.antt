@@ -1,8 +1,8 @@
 -- Laws of a stretch of bytes.
-mod Strokes
+pub mod Strokes
 mod Single
 mod Walking
-mod Places
+pub mod Places
 mod Levels
 mod Painting
 mod Passing

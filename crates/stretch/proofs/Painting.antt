@@ -10,6 +10,7 @@ use lib.Seq.{getD-set-other}
 use Rattle.vram.specs.Memory.{goodLength, place}
 use Rattle.block.specs.Block.{modeOf}
 use Rattle.block.specs.declared.Block.{Block}
+use Rattle.block.specs.declared.Note.{Note}
 use Rattle.stretch.specs.Stretch.{trace, strokes}
 use Rattle.stretch.specs.Flat.{painted}
 use Rattle.stretch.proofs.Strokes.{less, none, all}
@@ -34,31 +35,31 @@ module _ (v at count : ℕ) (mem : List ℕ) where
 
 module _ (b : Block) (m : modeOf b ≡ 0) where
   -- a fill
-  pub fills : b .andmask ≡ 0 → (along n : ℕ) (mem : List ℕ) (from at code made : ℕ) → goodLength (length mem) ≡ true → at + n ≤ length mem
-      → trace (painted (b .xormask) mem at n) code (made + n) ≡ strokes b along 1 n from at (trace mem code made)
+  pub fills : b .andmask ≡ 0 → (along n : ℕ) (mem : List ℕ) (from at : ℕ) (note : Note) (made : ℕ) → goodLength (length mem) ≡ true → at + n ≤ length mem
+      → trace (painted (b .xormask) mem at n) note (made + n) ≡ strokes b along 1 n from at (trace mem note made)
   unfolding strokes painted
-  fills z along zero mem from at code made g h = ap (trace mem code) (add-zero made)
-  fills z along (suc n) mem from at code made g h =
+  fills z along zero mem from at note made g h = ap (trace mem note) (add-zero made)
+  fills z along (suc n) mem from at note made g h =
       let x = b .xormask in
       let long = length-set mem at x in
-      ap (trace _ code) (omega arith)
-      ∙ fills z along n (set mem at x) (from + along) (at + 1) code (made + 1) (rw long g) (omega arith)
-      ∙ ap (λ (i : ℕ). strokes b along 1 n (from + along) (at + 1) (trace (set mem i x) code (made + 1))) (sym (stands _ g at (omega arith)))
-      ∙ ap (strokes b along 1 n (from + along) (at + 1)) (sym (fill-is b mem from at code made m z))
+      ap (trace _ note) (omega arith)
+      ∙ fills z along n (set mem at x) (from + along) (at + 1) note (made + 1) (rw long g) (omega arith)
+      ∙ ap (λ (i : ℕ). strokes b along 1 n (from + along) (at + 1) (trace (set mem i x) note (made + 1))) (sym (stands _ g at (omega arith)))
+      ∙ ap (strokes b along 1 n (from + along) (at + 1)) (sym (fill-is b mem from at note made m z))
 
   -- a copy of one byte
-  pub repeats : (b .andmask ≡ 0 → ⊥) → (n : ℕ) (mem : List ℕ) (from at code made v : ℕ) → goodLength (length mem) ≡ true → at + n ≤ length mem
+  pub repeats : (b .andmask ≡ 0 → ⊥) → (n : ℕ) (mem : List ℕ) (from at : ℕ) (note : Note) (made v : ℕ) → goodLength (length mem) ≡ true → at + n ≤ length mem
       → masked b mem from ≡ v → ((k : ℕ) → k < n → place (length mem) from ≡ at + k → ⊥)
-      → trace (painted v mem at n) code (made + 2 * n) ≡ strokes b 0 1 n from at (trace mem code made)
+      → trace (painted v mem at n) note (made + 2 * n) ≡ strokes b 0 1 n from at (trace mem note made)
   unfolding strokes painted
-  repeats z zero mem from at code made v g h s a = ap (trace mem code) (omega arith)
-  repeats z (suc n) mem from at code made v g h s a =
-      ap (trace _ code) (omega arith)
-      ∙ repeats z n (set mem at v) from (at + 1) code (made + 2) v (rw long g) (omega (arith, long)) again onward
-      ∙ ap (λ (i : ℕ). strokes b 0 1 n i (at + 1) (trace (set mem at v) code (made + 2))) (sym (add-zero from))
-      ∙ ap (λ (i : ℕ). strokes b 0 1 n (from + 0) (at + 1) (trace (set mem i v) code (made + 2))) (sym (stands _ g at (omega arith)))
-      ∙ ap (λ (u : ℕ). strokes b 0 1 n (from + 0) (at + 1) (trace (set mem (place (length mem) at) u) code (made + 2))) (sym s)
-      ∙ ap (strokes b 0 1 n (from + 0) (at + 1)) (sym (copy-is b mem from at code made m z))
+  repeats z zero mem from at note made v g h s a = ap (trace mem note) (omega arith)
+  repeats z (suc n) mem from at note made v g h s a =
+      ap (trace _ note) (omega arith)
+      ∙ repeats z n (set mem at v) from (at + 1) note (made + 2) v (rw long g) (omega (arith, long)) again onward
+      ∙ ap (λ (i : ℕ). strokes b 0 1 n i (at + 1) (trace (set mem at v) note (made + 2))) (sym (add-zero from))
+      ∙ ap (λ (i : ℕ). strokes b 0 1 n (from + 0) (at + 1) (trace (set mem i v) note (made + 2))) (sym (stands _ g at (omega arith)))
+      ∙ ap (λ (u : ℕ). strokes b 0 1 n (from + 0) (at + 1) (trace (set mem (place (length mem) at) u) note (made + 2))) (sym s)
+      ∙ ap (strokes b 0 1 n (from + 0) (at + 1)) (sym (copy-is b mem from at note made m z))
     where
       long : length (set mem at v) ≡ length mem
       long = length-set mem at v

@@ -1,4 +1,4 @@
--- What holds at each turn of a loop over the places of a flat stretch: the bytes that are left make of memory what the whole stretch makes of the beginning, whatever the collision code is. Assumes nothing.
+-- What holds at each turn of a loop over the places of a flat stretch: the bytes that are left make of memory what the whole stretch makes of the beginning, whatever the note is. Assumes nothing.
 use mathlib.Core.Path.{_≡_, refl, sym, ap, _∙_}
 use mathlib.Core.Bool.{Bool, true, false, cond}
 use mathlib.Core.List.{List}
@@ -14,9 +14,10 @@ use Rattle.vram.specs.Memory.{goodLength, place}
 use Rattle.mode.specs.Mode.{valueIn, writesIn, costIn, accessesIn, strokeOf}
 use Rattle.mode.proofs.Laws.{code-stays}
 use Rattle.block.specs.Block.{modeOf}
-use Rattle.block.specs.Byte.{readsSource}
+use Rattle.block.specs.Byte.{readsSource, strokeBy, writtenBy, struckBy}
 use Rattle.block.specs.declared.Block.{Block}
-use Rattle.stretch.specs.Stretch.{trace, strokeBy, struck, strokes}
+use Rattle.block.specs.declared.Note.{Note}
+use Rattle.stretch.specs.Stretch.{trace, struck, strokes}
 use Rattle.stretch.specs.Flat.{Makes}
 use Rattle.stretch.proofs.Strokes.{less, none, all}
 use Rattle.stretch.proofs.Single.{masked, masked-read, copy-is}
@@ -35,15 +36,15 @@ one-more false wrote cost k read = rw (add-zero wrote, add-one k, suc-mul k read
 pub record Passing (b : Block) (count from at : ℕ) (first mem : List ℕ) (made k : ℕ) : Type 0 where
   pub within : k ≤ count
   pub long : length mem ≡ length first
-  pub same : (code : ℕ) → strokes b 1 1 (count - k) (from + k) (at + k) (trace mem code made) ≡ strokes b 1 1 count from at (trace first code 0)
+  pub same : (note : Note) → strokes b 1 1 (count - k) (from + k) (at + k) (trace mem note made) ≡ strokes b 1 1 count from at (trace first note 0)
 
 module _ {b : Block} {count from at : ℕ} {first : List ℕ} where
   pub pass-start : Passing b count from at first first 0 0
-  pass-start = record { within = omega arith; long = refl; same = λ code. rw (add-zero from, add-zero at, all count) }
+  pass-start = record { within = omega arith; long = refl; same = λ note. rw (add-zero from, add-zero at, all count) }
 
   module _ {mem : List ℕ} {made k : ℕ} (p : Passing b count from at first mem made k) where
     -- one byte more
-    pass-on : k < count → (i v made′ : ℕ) → ((code : ℕ) → struck b (from + k) (at + k) (trace mem code made) ≡ trace (set mem i v) code made′)
+    pass-on : k < count → (i v made′ : ℕ) → ((note : Note) → struck b (from + k) (at + k) (trace mem note made) ≡ trace (set mem i v) note made′)
         → Passing b count from at first (set mem i v) made′ (k + 1)
     unfolding strokes
     pass-on h i v made′ e =
@@ -52,12 +53,12 @@ module _ {b : Block} {count from at : ℕ} {first : List ℕ} where
           within = omega arith;
           long = length-set mem i v ∙ p .long;
           same =
-              λ code.
-              ap (λ (x : ℕ). strokes b 1 1 (count - (k + 1)) x (at + (k + 1)) (trace (set mem i v) code made′)) (on from)
-              ∙ ap (λ (x : ℕ). strokes b 1 1 (count - (k + 1)) (from + k + 1) x (trace (set mem i v) code made′)) (on at)
-              ∙ ap (strokes b 1 1 (count - (k + 1)) (from + k + 1) (at + k + 1)) (sym (e code))
-              ∙ ap (λ (n : ℕ). strokes b 1 1 n (from + k) (at + k) (trace mem code made)) (less count k h)
-              ∙ p .same code;
+              λ note.
+              ap (λ (x : ℕ). strokes b 1 1 (count - (k + 1)) x (at + (k + 1)) (trace (set mem i v) note made′)) (on from)
+              ∙ ap (λ (x : ℕ). strokes b 1 1 (count - (k + 1)) (from + k + 1) x (trace (set mem i v) note made′)) (on at)
+              ∙ ap (strokes b 1 1 (count - (k + 1)) (from + k + 1) (at + k + 1)) (sym (e note))
+              ∙ ap (λ (n : ℕ). strokes b 1 1 n (from + k) (at + k) (trace mem note made)) (less count k h)
+              ∙ p .same note;
         }
 
     -- all bytes are done
@@ -66,10 +67,10 @@ module _ {b : Block} {count from at : ℕ} {first : List ℕ} where
 
     pub pass-done : count ≤ k → {made′ : ℕ} → made′ ≡ made → Makes b 1 1 count from at first mem made′
     unfolding strokes
-    pass-done h e code =
-        ap (trace mem code) e
-        ∙ ap (λ (n : ℕ). strokes b 1 1 n (from + k) (at + k) (trace mem code made)) (sym (none count k h))
-        ∙ p .same code
+    pass-done h e note =
+        ap (trace mem note) e
+        ∙ ap (λ (n : ℕ). strokes b 1 1 n (from + k) (at + k) (trace mem note made)) (sym (none count k h))
+        ∙ p .same note
 
     module _ (g : goodLength (length first) ≡ true) (h : k < count) (from-in : from + count ≤ length first) (at-in : at + count ≤ length first) where
       board : goodLength (length mem) ≡ true
@@ -86,11 +87,11 @@ module _ {b : Block} {count from at : ℕ} {first : List ℕ} where
       pub pass-copy : modeOf b ≡ 0 → (b .andmask ≡ 0 → ⊥) → made ≡ 2 * k → Passing b count from at first (set mem (at + k) (bitXor (bitAnd (getD mem (from + k) 0) (b .andmask)) (b .xormask))) (2 * (k + 1)) (k + 1)
       pass-copy m z e =
           pass-on h (at + k) _ _
-          (λ code.
-          copy-is b mem (from + k) (at + k) code made m z
-          ∙ ap (λ (i : ℕ). trace (set mem i (masked b mem (from + k))) code (made + 2)) here
-          ∙ ap (λ (i : ℕ). trace (set mem (at + k) (bitXor (bitAnd (getD mem i 0) (b .andmask)) (b .xormask))) code (made + 2)) there
-          ∙ ap (trace (set mem (at + k) (bitXor (bitAnd (getD mem (from + k) 0) (b .andmask)) (b .xormask))) code) (omega arith))
+          (λ note.
+          copy-is b mem (from + k) (at + k) note made m z
+          ∙ ap (λ (i : ℕ). trace (set mem i (masked b mem (from + k))) note (made + 2)) here
+          ∙ ap (λ (i : ℕ). trace (set mem (at + k) (bitXor (bitAnd (getD mem i 0) (b .andmask)) (b .xormask))) note (made + 2)) there
+          ∙ ap (trace (set mem (at + k) (bitXor (bitAnd (getD mem (from + k) 0) (b .andmask)) (b .xormask))) note) (omega arith))
 
       -- a byte of modes 1 to 6, s being its source after both masks
       module _ (mode : ℕ) (m : mode ≡ modeOf b) (under : mode < 7) (z : b .hitmask ≡ 0) where
@@ -103,17 +104,17 @@ module _ {b : Block} {count from at : ℕ} {first : List ℕ} where
         abbrev read : ℕ
         read = cond (readsSource b) 1 0
 
-        byte : (code : ℕ) → struck b (from + k) (at + k) (trace mem code made) ≡ trace (set mem (at + k) (cond (writesIn mode s) (valueIn mode s d) d)) code (made + (cond (writesIn mode s) (costIn mode (b .hitmask)) 0 + read))
-        unfolding struck strokeBy strokeOf accessesIn
-        byte code =
-            rw (masked-read b mem (from + k) (λ e. omega arith), there, here, sym m, code-stays mode (b .hitmask) s d code z)
-            (ap (λ (l : List ℕ). trace l code (made + (cond (writesIn mode s) (costIn mode (b .hitmask)) 0 + read))) (write-back (writesIn mode s) mem (at + k) (valueIn mode s d)))
+        byte : (note : Note) → struck b (from + k) (at + k) (trace mem note made) ≡ trace (set mem (at + k) (cond (writesIn mode s) (valueIn mode s d) d)) note (made + (cond (writesIn mode s) (costIn mode (b .hitmask)) 0 + read))
+        unfolding struck struckBy strokeBy writtenBy strokeOf accessesIn
+        byte note =
+            rw (masked-read b mem (from + k) (λ e. omega arith), there, here, sym m, code-stays mode (b .hitmask) s d (note .code) z)
+            (ap (λ (l : List ℕ). trace l note (made + (cond (writesIn mode s) (costIn mode (b .hitmask)) 0 + read))) (write-back (writesIn mode s) mem (at + k) (valueIn mode s d)))
 
         pub pass-mix : (wrote : ℕ) → made ≡ wrote * costIn mode (b .hitmask) + k * read
             → Passing b count from at first (set mem (at + k) (cond (writesIn mode s) (valueIn mode s d) d)) ((wrote + boolByte (writesIn mode s)) * costIn mode (b .hitmask) + (k + 1) * read) (k + 1)
         pass-mix wrote e =
             pass-on h (at + k) _ _
-            (λ code.
-            byte code
-            ∙ ap (trace (set mem (at + k) (cond (writesIn mode s) (valueIn mode s d) d)) code)
+            (λ note.
+            byte note
+            ∙ ap (trace (set mem (at + k) (cond (writesIn mode s) (valueIn mode s d) d)) note)
             (ap (λ (n : ℕ). n + (cond (writesIn mode s) (costIn mode (b .hitmask)) 0 + read)) e ∙ one-more (writesIn mode s) wrote (costIn mode (b .hitmask)) k read))

@@ -2,14 +2,14 @@
 use mathlib.Core.Path.{_≡_, refl, sym, ap, _∙_}
 use mathlib.Core.Bool.{true, false}
 use Prim.Native.Nat.{ℕ, zero, suc, _+_, _%_, _<_}
-use native.Mathlib.Nat.{mod-lt, mod-mod, mod-add-mod, mod-eq-of-lt}
+use native.Mathlib.Nat.{mod-lt, mod-mod, mod-add-mod}
 use native.Mathlib.Omega.{arith}
 use lib.ListN.{length}
 use Rattle.vram.specs.Memory.{goodLength, place}
-use Rattle.vram.proofs.Length.{good, wrap}
-use Rattle.block.specs.Byte.{readsSource}
+use Rattle.vram.proofs.Length.{good, wrap, own-place}
+use Rattle.block.specs.Byte.{readsSource, sourceBy, strokeBy, writtenBy, struckBy}
 use Rattle.block.specs.declared.Block.{Block}
-use Rattle.stretch.specs.Stretch.{Trace, strokeBy, struck, strokes}
+use Rattle.stretch.specs.Stretch.{Trace, struck, strokes}
 use Rattle.stretch.proofs.Strokes.{struck-length}
 
 module _ (L : ℕ) (g : goodLength L ≡ true) where
@@ -18,7 +18,7 @@ module _ (L : ℕ) (g : goodLength L ≡ true) where
 
   -- a place inside memory is its own
   pub stands : (i : ℕ) → i < L → place L i ≡ i
-  stands i h = wrap L g i ∙ mod-eq-of-lt h
+  stands i h = own-place L i h (good L g .most)
 
   pub place-place : (a : ℕ) → place L (place L a) ≡ place L a
   place-place a = wrap L g (place L a) ∙ ap (λ (x : ℕ). x % L) (wrap L g a) ∙ mod-mod a L ∙ sym (wrap L g a)
@@ -34,12 +34,12 @@ module _ (L : ℕ) (g : goodLength L ≡ true) where
 
 -- one byte, by the same places, or with no source read
 module _ (b : Block) (from from′ to to′ : ℕ) (d : Trace) where
-  same-byte : place (length (d .mem)) from ≡ place (length (d .mem)) from′ → place (length (d .mem)) to ≡ place (length (d .mem)) to′ → struck b from to d ≡ struck b from′ to′ d
-  unfolding struck strokeBy
+  pub same-byte : place (length (d .mem)) from ≡ place (length (d .mem)) from′ → place (length (d .mem)) to ≡ place (length (d .mem)) to′ → struck b from to d ≡ struck b from′ to′ d
+  unfolding struck struckBy strokeBy writtenBy sourceBy
   same-byte p q = rw (p, q)
 
   unread-byte : readsSource b ≡ false → struck b from to d ≡ struck b from′ to d
-  unfolding struck strokeBy
+  unfolding struck struckBy strokeBy writtenBy sourceBy
   unread-byte r = rw r
 
 module _ (b : Block) (step : ℕ) where

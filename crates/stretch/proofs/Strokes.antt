@@ -4,16 +4,18 @@ use mathlib.Core.Bool.{true, cond}
 use mathlib.Core.List.{List}
 use Prim.Native.Nat.{ℕ, suc, _+_, _-_, _*_, _≤_, _<_}
 use native.Mathlib.Omega.{arith}
-use lib.ListN.{length, length-set}
+use lib.ListN.{length}
 use Rattle.laws.proofs.Choice.{by-cond}
 use Rattle.vram.specs.Memory.{goodLength}
 use Rattle.mode.specs.Mode.{strokeOf}
 use Rattle.mode.specs.declared.Stroke.{Stroke}
 use Rattle.mode.proofs.Laws.{accesses-small}
-use Rattle.block.specs.Byte.{readsSource}
+use Rattle.block.specs.Byte.{readsSource, noted}
 use Rattle.block.specs.declared.Block.{Block}
+use Rattle.block.specs.declared.Note.{Note}
 use Rattle.block.specs.declared.Struck.{Struck}
-use Rattle.stretch.specs.Stretch.{Trace, trace, strokeBy, struck, strokes}
+use Rattle.block.proofs.Byte.{written-length, struck-small}
+use Rattle.stretch.specs.Stretch.{Trace, trace, struck, strokes}
 
 -- a byte less is left, or none
 pub less : (count k : ℕ) → k < count → suc (count - (k + 1)) ≡ count - k
@@ -36,18 +38,18 @@ read-small b = by-cond (λ (v : ℕ). v ≤ 1) (readsSource b) 1 0 (λ _. omega 
 -- both
 pub both-small :
     (b : Block) (mode mask s d code : ℕ) (k : Stroke) (u : Struck) → k ≡ strokeOf mode mask s d code
-    → (u .code ≡ k .code) × (u .accesses ≡ k .accesses + cond (readsSource b) 1 0) → u .accesses ≤ 3
+    → (u .note ≡ noted k) × (u .accesses ≡ k .accesses + cond (readsSource b) 1 0) → u .accesses ≤ 3
 both-small b mode mask s d code k u e i = omega (arith, stroke-small mode mask s d code k e, read-small b, i .1)
 
 -- one byte keeps memory's length and has at most 3 accesses
 module _ (b : Block) (from to : ℕ) (d : Trace) where
   pub struck-length : length (struck b from to d .mem) ≡ length (d .mem)
   unfolding struck
-  struck-length = by-cond (λ (m : List ℕ). length m ≡ length (d .mem)) (strokeBy b (d .mem) from to (d .code) .written) _ (d .mem) (λ _. length-set (d .mem) _ _) (λ _. refl)
+  struck-length = written-length b from to (d .mem)
 
-  struck-small : struck b from to d .accesses ≤ d .accesses + 3
-  unfolding struck strokeBy
-  struck-small = omega (arith, read-small b, stroke-small _ _ _ _ _ (strokeBy b (d .mem) from to (d .code)) refl)
+  pub struck-few : struck b from to d .accesses ≤ d .accesses + 3
+  unfolding struck
+  struck-few = omega (arith, struck-small b from to (d .mem) (d .note))
 
 -- an address after k steps: every step is a word
 pub record Reached (step address k : ℕ) : Type 0 where
@@ -63,25 +65,25 @@ reached-on r = record { small = r .small; near = omega (arith, r .small, r .near
 pub reached-fits : {step address k : ℕ} → Reached step address k → k < 65535 → address + step < 18446744073709551616
 reached-fits r h = omega (arith, r .small, r .near)
 
-pub record Going (b : Block) (along step count from₀ to₀ : ℕ) (first : List ℕ) (code₀ : ℕ) (mem : List ℕ) (from to code made k : ℕ) : Type 0 where
+pub record Going (b : Block) (along step count from₀ to₀ : ℕ) (first : List ℕ) (note₀ : Note) (mem : List ℕ) (from to : ℕ) (note : Note) (made k : ℕ) : Type 0 where
   pub good : goodLength (length first) ≡ true
   pub long : length mem ≡ length first
   pub most : count ≤ 65535
   pub counted : made ≤ 3 * k
-  pub same : strokes b along step (count - k) from to (trace mem code made) ≡ strokes b along step count from₀ to₀ (trace first code₀ 0)
+  pub same : strokes b along step (count - k) from to (trace mem note made) ≡ strokes b along step count from₀ to₀ (trace first note₀ 0)
 
-module _ {b : Block} {along step count from₀ to₀ : ℕ} {first : List ℕ} {code₀ : ℕ} where
-  pub start : goodLength (length first) ≡ true → count ≤ 65535 → Going b along step count from₀ to₀ first code₀ first from₀ to₀ code₀ 0 0
+module _ {b : Block} {along step count from₀ to₀ : ℕ} {first : List ℕ} {note₀ : Note} where
+  pub start : goodLength (length first) ≡ true → count ≤ 65535 → Going b along step count from₀ to₀ first note₀ first from₀ to₀ note₀ 0 0
   start h l =
       record {
         good = h;
         long = refl;
         most = l;
         counted = omega arith;
-        same = ap (λ (n : ℕ). strokes b along step n from₀ to₀ (trace first code₀ 0)) (all count);
+        same = ap (λ (n : ℕ). strokes b along step n from₀ to₀ (trace first note₀ 0)) (all count);
       }
 
-  module _ {mem : List ℕ} {from to code made k : ℕ} (g : Going b along step count from₀ to₀ first code₀ mem from to code made k) where
+  module _ {mem : List ℕ} {from to : ℕ} {note : Note} {made k : ℕ} (g : Going b along step count from₀ to₀ first note₀ mem from to note made k) where
     pub fit : goodLength (length mem) ≡ true
     fit = rw (g .long) (g .good)
 
@@ -93,27 +95,27 @@ module _ {b : Block} {along step count from₀ to₀ : ℕ} {first : List ℕ} {
     count-fits h = omega (arith, g .most)
 
     -- one byte more
-    pub on : {mem′ : List ℕ} {code′ made′ : ℕ} → k < count → struck b from to (trace mem code made) ≡ trace mem′ code′ made′
-        → Going b along step count from₀ to₀ first code₀ mem′ (from + along) (to + step) code′ made′ (k + 1)
+    pub on : {mem′ : List ℕ} {note′ : Note} {made′ : ℕ} → k < count → struck b from to (trace mem note made) ≡ trace mem′ note′ made′
+        → Going b along step count from₀ to₀ first note₀ mem′ (from + along) (to + step) note′ made′ (k + 1)
     unfolding strokes
     on h e =
         record {
           good = g .good;
-          long = ap (λ (d : Trace). length (d .mem)) (sym e) ∙ struck-length b from to (trace mem code made) ∙ g .long;
+          long = ap (λ (d : Trace). length (d .mem)) (sym e) ∙ struck-length b from to (trace mem note made) ∙ g .long;
           most = g .most;
-          counted = omega (arith, g .counted, struck-small b from to (trace mem code made), ap (λ (d : Trace). d .accesses) e);
+          counted = omega (arith, g .counted, struck-few b from to (trace mem note made), ap (λ (d : Trace). d .accesses) e);
           same =
               ap (λ (d : Trace). strokes b along step (count - (k + 1)) (from + along) (to + step) d) (sym e)
-              ∙ ap (λ (n : ℕ). strokes b along step n from to (trace mem code made)) (less count k h)
+              ∙ ap (λ (n : ℕ). strokes b along step n from to (trace mem note made)) (less count k h)
               ∙ g .same;
         }
 
     -- all bytes are done
-    pub done : count ≤ k → trace mem code made ≡ strokes b along step count from₀ to₀ (trace first code₀ 0)
+    pub done : count ≤ k → trace mem note made ≡ strokes b along step count from₀ to₀ (trace first note₀ 0)
     unfolding strokes
-    done h = ap (λ (n : ℕ). strokes b along step n from to (trace mem code made)) (sym (none count k h)) ∙ g .same
+    done h = ap (λ (n : ℕ). strokes b along step n from to (trace mem note made)) (sym (none count k h)) ∙ g .same
 
 -- a loop that reads no source goes on alike, whatever the source's addresses are
-abbrev pub Filling : Block → ℕ → ℕ → ℕ → List ℕ → ℕ → List ℕ → ℕ → ℕ → ℕ → Type 0
-Filling b step count to₀ first code mem to made k =
-    (along from₀ : ℕ) → (from : ℕ) × Going b along step count from₀ to₀ first code mem from to code made k
+abbrev pub Filling : Block → ℕ → ℕ → ℕ → List ℕ → Note → List ℕ → ℕ → ℕ → ℕ → Type 0
+Filling b step count to₀ first note mem to made k =
+    (along from₀ : ℕ) → (from : ℕ) × Going b along step count from₀ to₀ first note mem from to note made k

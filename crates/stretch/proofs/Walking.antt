@@ -11,8 +11,9 @@ use Rattle.vram.specs.Memory.{goodLength, place, cellAt}
 use Rattle.mode.specs.Mode.{strokeOf}
 use Rattle.mode.specs.declared.Stroke.{Stroke}
 use Rattle.block.specs.Block.{modeOf}
-use Rattle.block.specs.Byte.{readsSource}
+use Rattle.block.specs.Byte.{readsSource, noted}
 use Rattle.block.specs.declared.Block.{Block}
+use Rattle.block.specs.declared.Note.{Note}
 use Rattle.block.specs.declared.Struck.{Struck}
 use Rattle.stretch.specs.declared.Stretch.{Stretch}
 use Rattle.stretch.specs.Stretch.{trace, struck}
@@ -23,22 +24,22 @@ use Rattle.stretch.proofs.Single.{masked, stroke-is}
 abbrev pub Wide : Stretch → Type 0
 Wide s = Fits w32 (s .from) × (Fits w32 (s .along) × (Fits w32 (s .to) × (Fits w32 (s .step) × (Fits w16 (s .count) × Unit {0}))))
 
-pub record Walk (b : Block) (along step count from₀ to₀ : ℕ) (first : List ℕ) (code₀ : ℕ) (mem : List ℕ) (from to code made k : ℕ) : Type 0 where
-  pub going : Going b along step count from₀ to₀ first code₀ mem from to code made k
+pub record Walk (b : Block) (along step count from₀ to₀ : ℕ) (first : List ℕ) (note₀ : Note) (mem : List ℕ) (from to : ℕ) (note : Note) (made k : ℕ) : Type 0 where
+  pub going : Going b along step count from₀ to₀ first note₀ mem from to note made k
   pub source : Reached along from k
   pub dest : Reached step to k
 
-pub walk : (b : Block) (s : Stretch) (mem : List ℕ) (code : ℕ) → goodLength (length mem) ≡ true → Wide s
-    → Walk b (s .along) (s .step) (s .count) (s .from) (s .to) mem code mem (s .from) (s .to) code 0 0
-walk b s mem code h wide =
+pub walk : (b : Block) (s : Stretch) (mem : List ℕ) (note : Note) → goodLength (length mem) ≡ true → Wide s
+    → Walk b (s .along) (s .step) (s .count) (s .from) (s .to) mem note mem (s .from) (s .to) note 0 0
+walk b s mem note h wide =
     record {
       going = start h (omega (arith, wide .1 .1 .1 .1 .0));
       source = reach (omega (arith, wide .1 .0)) (omega (arith, wide .0));
       dest = reach (omega (arith, wide .1 .1 .1 .0)) (omega (arith, wide .1 .1 .0));
     }
 
-module _ {b : Block} {along step count from₀ to₀ : ℕ} {first : List ℕ} {code₀ : ℕ} {mem : List ℕ} {from to code made k : ℕ}
-    (w : Walk b along step count from₀ to₀ first code₀ mem from to code made k) (h : k < count) where
+module _ {b : Block} {along step count from₀ to₀ : ℕ} {first : List ℕ} {note₀ : Note} {mem : List ℕ} {from to : ℕ} {note : Note} {made k : ℕ}
+    (w : Walk b along step count from₀ to₀ first note₀ mem from to note made k) (h : k < count) where
   -- the numbers of one more
   pub walk-made : {a : ℕ} → a ≤ 3 → Fits w32 (made + a)
   walk-made l = record { fits = made-fits (w .going) h l }
@@ -53,14 +54,14 @@ module _ {b : Block} {along step count from₀ to₀ : ℕ} {first : List ℕ} {
   walk-k = record { fits = omega (arith, count-fits (w .going) h) }
 
   -- one byte more,
-  pub walk-on : {mem′ : List ℕ} {code′ made′ : ℕ} → struck b from to (trace mem code made) ≡ trace mem′ code′ made′
-      → Walk b along step count from₀ to₀ first code₀ mem′ (from + along) (to + step) code′ made′ (k + 1)
+  pub walk-on : {mem′ : List ℕ} {note′ : Note} {made′ : ℕ} → struck b from to (trace mem note made) ≡ trace mem′ note′ made′
+      → Walk b along step count from₀ to₀ first note₀ mem′ (from + along) (to + step) note′ made′ (k + 1)
   walk-on e = record { going = on (w .going) h e; source = reached-on (w .source); dest = reached-on (w .dest) }
 
   -- by its stroke
   pub walk-stroke :
       {mode s d : ℕ} {stroke : Stroke} {u : Struck} {mem′ : List ℕ} → mode ≡ modeOf b → (modeOf b ≡ 7 → ⊥) → s ≡ masked b mem from → d ≡ cellAt mem to
-      → stroke ≡ strokeOf mode (b .hitmask) s d code → (u .code ≡ stroke .code) × (u .accesses ≡ stroke .accesses + cond (readsSource b) 1 0)
+      → stroke ≡ strokeOf mode (b .hitmask) s d (note .code) → (u .note ≡ noted stroke) × (u .accesses ≡ stroke .accesses + cond (readsSource b) 1 0)
       → mem′ ≡ cond (stroke .written) (set mem (place (length mem) to) (stroke .value)) mem
-      → Walk b along step count from₀ to₀ first code₀ mem′ (from + along) (to + step) (u .code) (made + u .accesses) (k + 1)
-  walk-stroke m n s d k u l = walk-on (stroke-is b mem from to code made m n s d k u l)
+      → Walk b along step count from₀ to₀ first note₀ mem′ (from + along) (to + step) (u .note) (made + u .accesses) (k + 1)
+  walk-stroke m n s d k u l = walk-on (stroke-is b mem from to note made m n s d k u l)

@@ -8,6 +8,7 @@ use lib.ListN.{set}
 use Rattle.vram.specs.Memory.{goodLength, place}
 use Rattle.block.specs.Block.{modeOf}
 use Rattle.block.specs.declared.Block.{Block}
+use Rattle.block.specs.declared.Note.{Note}
 use Rattle.stretch.specs.declared.Stretch.{Stretch}
 use Rattle.stretch.specs.Stretch.{trace, strokes}
 
@@ -45,10 +46,10 @@ flatCount L b s = cond (goodLength L && levelOf b (s .along) (s .step)) (beforeW
 abbrev pub firstOf : Stretch → ℕ → Stretch
 firstOf s count = record { from = s .from; along = s .along; to = s .to; step = s .step; count = count }
 
--- what so many strokes make of memory, and their accesses, whatever the collision code is: it stays
+-- what so many strokes make of memory, and their accesses, whatever the note is: it stays
 abbrev pub Makes : Block → ℕ → ℕ → ℕ → ℕ → ℕ → List ℕ → List ℕ → ℕ → Type 0
 Makes b along step count from to mem mem′ accesses =
-    (code : ℕ) → trace mem′ code accesses ≡ strokes b along step count from to (trace mem code 0)
+    (note : Note) → trace mem′ note accesses ≡ strokes b along step count from to (trace mem note 0)
 
 -- one value in n places from at on
 unfoldable pub painted : ℕ → List ℕ → ℕ → ℕ → List ℕ

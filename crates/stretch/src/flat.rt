@@ -15,11 +15,12 @@ use crate::Drawn;
 use crate::Stretch;
 use crate::index;
 use block::Block;
+use block::Note;
 
 // What was drawn of a stretch: so many of its bytes, and what they leave beside memory.
 pub struct Part {
     pub count: u32,
-    pub code: u8,
+    pub note: Note,
     pub accesses: u32,
 }
 
@@ -138,32 +139,32 @@ fn apart(place: usize, at: usize, count: u16) -> bool
 }
 
 // Mode 0: a fill, a copy, or one byte copied many times. Where that byte is written on the way it is read each time.
-fn mode_0(block: Block, mem: &mut [u8], stretch: Stretch, from: usize, at: usize, code: u8) -> Drawn
+fn mode_0(block: Block, mem: &mut [u8], stretch: Stretch, from: usize, at: usize, note: Note) -> Drawn
     requires { ⌜ (goodLength (length (now mem)) ≡ true) × (modeOf block ≡ 0) × Flat (length (now mem)) block stretch × (at ≡ place (length (now mem)) (stretch .to)) × ((block .andmask ≡ 0 → ⊥) → from ≡ place (length (now mem)) (stretch .from)) ⌝ }
-    ensures { λ r. ⌜ Draws block stretch (now (mem .entry)) code (now (mem .exit)) r ⌝ }
+    ensures { λ r. ⌜ Draws block stretch (now (mem .entry)) note (now (mem .exit)) r ⌝ }
 {
     let count = stretch.count;
     if block.andmask == 0 {
         paint(mem, at, count, block.xormask);
         return Drawn {
-            code,
+            note,
             accesses: count as u32,
         };
     }
     if stretch.along == 1 {
         copy(block, mem, from, at, count);
         return Drawn {
-            code,
+            note,
             accesses: 2 * count as u32,
         };
     }
     if !apart(from, at, count) {
-        return crate::copy(block, mem, stretch, code);
+        return crate::copy(block, mem, stretch, note);
     }
     let s = (mem[from] & block.andmask) ^ block.xormask;
     paint(mem, at, count, s);
     Drawn {
-        code,
+        note,
         accesses: 2 * count as u32,
     }
 }
@@ -182,43 +183,44 @@ fn first_source(n: usize, block: Block, stretch: Stretch, at: usize) -> usize
 }
 
 // A flat stretch, by the loop of its mode; mode 7 does nothing.
-fn whole(block: Block, mem: &mut [u8], stretch: Stretch, code: u8) -> Drawn
+fn whole(block: Block, mem: &mut [u8], stretch: Stretch, note: Note) -> Drawn
     requires { ⌜ (goodLength (length (now mem)) ≡ true) × Flat (length (now mem)) block stretch ⌝ }
-    ensures { λ r. ⌜ trace (now (mem .exit)) (r .code) (r .accesses) ≡ traceOf block stretch (now (mem .entry)) code ⌝ }
+    ensures { λ r. ⌜ trace (now (mem .exit)) (r .note) (r .accesses) ≡ traceOf block stretch (now (mem .entry)) note ⌝ }
 {
     let at = index(mem.len(), stretch.to as usize);
     let from = first_source(mem.len(), block, stretch, at);
     let mode = block.mode();
     if mode == 0 {
-        return mode_0(block, mem, stretch, from, at, code);
+        return mode_0(block, mem, stretch, from, at, note);
     }
     if mode == 7 {
-        return Drawn { code, accesses: 0 };
+        return Drawn { note, accesses: 0 };
     }
     Drawn {
-        code,
+        note,
         accesses: mix_by_mode(mode, block, mem, from, at, stretch.count),
     }
 }
 
 // The bytes of a stretch before a wrap, if they are flat; else none.
-pub fn draw(block: Block, mem: &mut [u8], mut stretch: Stretch, code: u8) -> Part
+pub fn draw(block: Block, mem: &mut [u8], mut stretch: Stretch, note: Note) -> Part
     ensures count { λ r. ⌜ r .count ≡ flatCount (length (now (mem .entry))) block stretch ⌝ }
-    ensures drawn { λ r. ⌜ trace (now (mem .exit)) (r .code) (r .accesses) ≡ traceOf block (firstOf stretch (r .count)) (now (mem .entry)) code ⌝ }
+    ensures drawn { λ r. ⌜ trace (now (mem .exit)) (r .note) (r .accesses) ≡ traceOf block (firstOf stretch (r .count)) (now (mem .entry)) note ⌝ }
 {
     if !(vram::good_length(mem.len()) & level(block, stretch.along, stretch.step)) {
         return Part {
             count: 0,
-            code,
+            note,
             accesses: 0,
         };
     }
     let count = before_wrap(mem.len(), block, stretch);
     stretch.count = count as u16;
-    let drawn = whole(block, mem, stretch, code);
+    let drawn = whole(block, mem, stretch, note);
+    let note = drawn.note;
     Part {
         count,
-        code: drawn.code,
+        note,
         accesses: drawn.accesses,
     }
 }

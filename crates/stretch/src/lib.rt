@@ -5,12 +5,13 @@ ghost use lib.Bits.{bitAnd, bitXor};
 ghost use lib.ListN.{length, set};
 ghost use Rattle.vram.specs.Memory.{goodLength, place, cellAt};
 ghost use Rattle.block.specs.Block.{modeOf};
-ghost use Rattle.block.specs.Byte.{readsSource};
+ghost use Rattle.block.specs.Byte.{readsSource, noted};
 ghost use Rattle.stretch.specs.Stretch.{Draws, trace, traceOf};
 
 pub mod flat;
 
 use block::Block;
+use block::Note;
 use block::Struck;
 use mode::Stroke;
 
@@ -24,9 +25,9 @@ pub struct Stretch {
     pub count: u16,
 }
 
-// What a stretch leaves beside memory: the collision code after it, and its accesses.
+// What a stretch leaves beside memory: the note of collisions after it, and its accesses.
 pub struct Drawn {
-    pub code: u8,
+    pub note: Note,
     pub accesses: u32,
 }
 
@@ -66,22 +67,23 @@ fn source(block: Block, mem: &[u8], address: usize) -> u8
 // Writes what a stroke writes, and counts the source's access with its own.
 fn settle(block: Block, mem: &mut [u8], to: usize, stroke: Stroke) -> Struck
     requires { ⌜ (goodLength (length (now mem)) ≡ true) × (stroke .accesses ≤ 2) ⌝ }
-    ensures struck { λ r. ⌜ (r .code ≡ stroke .code) × (r .accesses ≡ stroke .accesses + cond (readsSource block) 1 0) ⌝ }
+    ensures struck { λ r. ⌜ (r .note ≡ noted stroke) × (r .accesses ≡ stroke .accesses + cond (readsSource block) 1 0) ⌝ }
     ensures memory { λ _. ⌜ now (mem .exit) ≡ cond (stroke .written) (set (now (mem .entry)) (place (length (now (mem .entry))) to) (stroke .value)) (now (mem .entry)) ⌝ }
 {
     if stroke.written {
         put(mem, to, stroke.value);
     }
+    let note = Note { code: stroke.code };
     Struck {
-        code: stroke.code,
+        note,
         accesses: stroke.accesses + block.reads() as u8,
     }
 }
 
 // Mode 0 with an AND mask of 0: every byte is the XOR mask.
-fn fill(block: Block, mem: &mut [u8], stretch: Stretch, code: u8) -> Drawn
+fn fill(block: Block, mem: &mut [u8], stretch: Stretch, note: Note) -> Drawn
     requires { ⌜ (goodLength (length (now mem)) ≡ true) × (modeOf block ≡ 0) × (block .andmask ≡ 0) ⌝ }
-    ensures { λ r. ⌜ Draws block stretch (now (mem .entry)) code (now (mem .exit)) r ⌝ }
+    ensures { λ r. ⌜ Draws block stretch (now (mem .entry)) note (now (mem .exit)) r ⌝ }
 {
     let step = stretch.step as usize;
     let count = stretch.count as u32;
@@ -95,15 +97,15 @@ fn fill(block: Block, mem: &mut [u8], stretch: Stretch, code: u8) -> Drawn
         k += 1;
     }
     Drawn {
-        code,
+        note,
         accesses: made,
     }
 }
 
 // Mode 0: the source is copied.
-fn copy(block: Block, mem: &mut [u8], stretch: Stretch, code: u8) -> Drawn
+fn copy(block: Block, mem: &mut [u8], stretch: Stretch, note: Note) -> Drawn
     requires { ⌜ (goodLength (length (now mem)) ≡ true) × (modeOf block ≡ 0) × (block .andmask ≡ 0 → ⊥) ⌝ }
-    ensures { λ r. ⌜ Draws block stretch (now (mem .entry)) code (now (mem .exit)) r ⌝ }
+    ensures { λ r. ⌜ Draws block stretch (now (mem .entry)) note (now (mem .exit)) r ⌝ }
 {
     let along = stretch.along as usize;
     let step = stretch.step as usize;
@@ -121,15 +123,15 @@ fn copy(block: Block, mem: &mut [u8], stretch: Stretch, code: u8) -> Drawn
         k += 1;
     }
     Drawn {
-        code,
+        note,
         accesses: made,
     }
 }
 
 // Mode 6. The mode is a constant here, so that the compiler leaves the others out.
-fn nibbles(block: Block, mem: &mut [u8], stretch: Stretch, mut code: u8) -> Drawn
+fn nibbles(block: Block, mem: &mut [u8], stretch: Stretch, mut note: Note) -> Drawn
     requires { ⌜ (goodLength (length (now mem)) ≡ true) × (modeOf block ≡ 6) ⌝ }
-    ensures { λ r. ⌜ Draws block stretch (now (mem .entry)) code (now (mem .exit)) r ⌝ }
+    ensures { λ r. ⌜ Draws block stretch (now (mem .entry)) note (now (mem .exit)) r ⌝ }
 {
     let along = stretch.along as usize;
     let step = stretch.step as usize;
@@ -140,24 +142,24 @@ fn nibbles(block: Block, mem: &mut [u8], stretch: Stretch, mut code: u8) -> Draw
     let mut k: u32 = 0;
     while k < count {
         let s = source(block, mem, from);
-        let stroke = mode::stroke_of(6, block.hitmask, s, cell(mem, to), code);
+        let stroke = mode::stroke_of(6, block.hitmask, s, cell(mem, to), note.code);
         let struck = settle(block, mem, to, stroke);
-        code = struck.code;
+        note = struck.note;
         made += struck.accesses as u32;
         from += along;
         to += step;
         k += 1;
     }
     Drawn {
-        code,
+        note,
         accesses: made,
     }
 }
 
 // The modes that read the source unless the AND mask is 0: every one but 7. Modes 1 to 5 come here.
-fn blend(block: Block, mem: &mut [u8], stretch: Stretch, mut code: u8) -> Drawn
+fn blend(block: Block, mem: &mut [u8], stretch: Stretch, mut note: Note) -> Drawn
     requires { ⌜ (goodLength (length (now mem)) ≡ true) × (modeOf block ≡ 7 → ⊥) ⌝ }
-    ensures { λ r. ⌜ Draws block stretch (now (mem .entry)) code (now (mem .exit)) r ⌝ }
+    ensures { λ r. ⌜ Draws block stretch (now (mem .entry)) note (now (mem .exit)) r ⌝ }
 {
     let mode = block.mode();
     let along = stretch.along as usize;
@@ -169,40 +171,40 @@ fn blend(block: Block, mem: &mut [u8], stretch: Stretch, mut code: u8) -> Drawn
     let mut k: u32 = 0;
     while k < count {
         let s = source(block, mem, from);
-        let stroke = mode::stroke_of(mode, block.hitmask, s, cell(mem, to), code);
+        let stroke = mode::stroke_of(mode, block.hitmask, s, cell(mem, to), note.code);
         let struck = settle(block, mem, to, stroke);
-        code = struck.code;
+        note = struck.note;
         made += struck.accesses as u32;
         from += along;
         to += step;
         k += 1;
     }
     Drawn {
-        code,
+        note,
         accesses: made,
     }
 }
 
 // A stretch of a block's bytes, by the loop of its mode; mode 7 does nothing. In a memory of no board's
 // length nothing is done.
-pub fn draw(block: Block, mem: &mut [u8], stretch: Stretch, code: u8) -> Drawn
-    ensures { λ r. ⌜ trace (now (mem .exit)) (r .code) (r .accesses) ≡ traceOf block stretch (now (mem .entry)) code ⌝ }
+pub fn draw(block: Block, mem: &mut [u8], stretch: Stretch, note: Note) -> Drawn
+    ensures { λ r. ⌜ trace (now (mem .exit)) (r .note) (r .accesses) ≡ traceOf block stretch (now (mem .entry)) note ⌝ }
 {
     if !vram::good_length(mem.len()) {
-        return Drawn { code, accesses: 0 };
+        return Drawn { note, accesses: 0 };
     }
     let mode = block.mode();
     if mode == 0 {
         if block.andmask == 0 {
-            return fill(block, mem, stretch, code);
+            return fill(block, mem, stretch, note);
         }
-        return copy(block, mem, stretch, code);
+        return copy(block, mem, stretch, note);
     }
     if mode == 6 {
-        return nibbles(block, mem, stretch, code);
+        return nibbles(block, mem, stretch, note);
     }
     if mode == 7 {
-        return Drawn { code, accesses: 0 };
+        return Drawn { note, accesses: 0 };
     }
-    blend(block, mem, stretch, code)
+    blend(block, mem, stretch, note)
 }

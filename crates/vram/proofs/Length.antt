@@ -4,7 +4,7 @@ use mathlib.Core.Bool.{true}
 use mathlib.Core.List.{[], _∷_}
 use mathlib.Core.Logic.{⊎-elim}
 use Prim.Native.Nat.{ℕ, suc, _-_, _*_, _/_, _%_, _^_, _≤_, _<_, _∣_}
-use native.Mathlib.Nat.{mod-mod-of-dvd, dvd-mul-left, pow-suc, lt-of-not-le, not-le-of-lt, eq-zero-or-pos, sub-add-cancel, le-of-suc-le-suc}
+use native.Mathlib.Nat.{mod-eq-of-lt, mod-mod-of-dvd, dvd-mul-left, pow-suc, lt-of-not-le, not-le-of-lt, eq-zero-or-pos, sub-add-cancel, le-of-suc-le-suc}
 use native.Mathlib.Omega.{arith}
 use lib.Arith.{bin-ind}
 use lib.Bits.{bitAnd, and-mask, mask-lt}
@@ -66,6 +66,10 @@ shortest = refl
 -- an access need not wrap at 524,288 first
 pub wrap : (L : ℕ) → goodLength L ≡ true → (x : ℕ) → place L x ≡ x % L
 wrap L e x = let g = good L e in mod-mod-of-dvd L x (divides L (g .one) (g .most))
+
+-- an address below the length of a memory is its own place
+pub own-place : (L a : ℕ) → a < L → L ≤ 524288 → place L a ≡ a
+own-place L a l h = ap (λ (x : ℕ). x % L) (mod-eq-of-lt {n = a} {m = 524288} (omega arith)) ∙ mod-eq-of-lt l
 
 pub one-some : (L : ℕ) → ones L ≡ 1 → 1 ≤ L
 one-some L e =

@@ -12,11 +12,11 @@ use Rattle.engine.proofs.burst_each.Statement.{statement}
 use Rattle.engine.proofs.burst_each.Tie as tie
 
 abbrev Inv-loop : tie.InvT-loop
-Inv-loop blitter mem₀ ticks accesses budget block columns rows place₀ code₀ done₀ made₀ mem place code done made =
-    Bursting blitter mem₀ ticks accesses budget mem (place .row) (place .col) code done made × (place ≡ placeAt (blitter .block) (place .row) (place .col))
+Inv-loop blitter mem₀ ticks accesses budget block columns rows place₀ note₀ done₀ made₀ mem place note done made =
+    Bursting blitter mem₀ ticks accesses budget mem (place .row) (place .col) note done made × (place ≡ placeAt (blitter .block) (place .row) (place .col))
 
 abbrev μ-loop : tie.MeasureT-loop
-μ-loop blitter mem₀ ticks accesses budget block columns rows place₀ code₀ done₀ made₀ mem place code done made =
+μ-loop blitter mem₀ ticks accesses budget block columns rows place₀ note₀ done₀ made₀ mem place note done made =
     budget - done
 
 height-in : (a : tie.Start Inv-loop μ-loop) → a .args .blitter .block .height < 256
@@ -30,22 +30,22 @@ abbrev Drew : Type 0
 Drew = tie.After-struct-known Inv-loop μ-loop
 
 abbrev at-draw : Drew → tie.After-draw Inv-loop μ-loop
-at-draw c = c .before .before .before
+at-draw c = c .before .before .before .before
 
 abbrev at-least : Drew → tie.After-least Inv-loop μ-loop
-at-least c = c .before .before .before .before .before .before
+at-least c = at-draw c .before .before .before
 
 abbrev at-loop : Drew → tie.At-loop Inv-loop μ-loop
-at-loop c = c .before .before .before .before .before .before .before .before .before
+at-loop c = at-least c .before .before .before
 
 abbrev at-rows : Drew → tie.After-rows Inv-loop μ-loop
-at-rows c = c .before .before .before .before .before .before .before .before .before .before .before
+at-rows c = at-loop c .before .before .before
 
 abbrev at-columns : Drew → tie.After-columns Inv-loop μ-loop
-at-columns c = c .before .before .before .before .before .before .before .before .before .before .before .before
+at-columns c = at-rows c .before
 
 abbrev entry : Drew → tie.Start Inv-loop μ-loop
-entry c = c .before .before .before .before .before .before .before .before .before .before .before .before .before .before .before
+entry c = at-columns c .before .before .before
 
 -- what that turn of the loop draws
 turn :
@@ -53,9 +53,9 @@ turn :
     → let a = entry c .args in
     let l = at-loop c .loop in
     let drawn = at-draw c .draw in
-    Stretched (a .blitter) (a .mem .now) (a .ticks) (a .accesses) (a .budget) (l .mem) (l .place .row) (l .place .col) (l .code) (l .done) (l .made)
-    (at-least c .least .result) (trace (drawn .last .1 .0) (drawn .result .code) (drawn .result .accesses))
-turn c = stretched (at-loop c .loop .inv .0) (c .before .before .before .before .before .before .before .reach .ensures .1) (at-least c .least .ensures) (c .before .before .before .before .before .stretch .ensures) (at-draw c .draw .ensures)
+    Stretched (a .blitter) (a .mem .now) (a .ticks) (a .accesses) (a .budget) (l .mem) (l .place .row) (l .place .col) (l .note) (l .done) (l .made)
+    (at-least c .least .result) (trace (drawn .last .1 .0) (drawn .result .note) (drawn .result .accesses))
+turn c = stretched (at-loop c .loop .inv .0) (at-least c .before .reach .ensures .1) (at-least c .least .ensures) (at-draw c .before .before .stretch .ensures) (at-draw c .draw .ensures)
 
 -- its last byte stands in the block
 abbrev Last : Type 0
@@ -78,7 +78,7 @@ ending :
     let l = at-loop drew .loop in
     let drawn = at-draw drew .draw in
     BurstTo (a .blitter) (a .mem .now) (a .ticks) (a .accesses) (a .budget)
-    (ended (a .blitter) (drawn .result .code)) (drawn .last .1 .0) (l .done + at-least drew .least .result) (l .made + drawn .result .accesses)
+    (ended (a .blitter) (drawn .result .note)) (drawn .last .1 .0) (l .done + at-least drew .least .result) (l .made + drawn .result .accesses)
 ending c =
     let drew = c .before .before .before .before .before in
     burst-end (turn drew) (c .before .before .before .before .ahead .ensures) (at-columns drew .columns .ensures) (at-rows drew .rows .ensures) (c .before .before .if1 .left) (c .if2 .left)
@@ -99,7 +99,7 @@ place-of-requires : tie.Need-place-of-requires Inv-loop μ-loop
 place-of-requires c κs = tt
 
 loop-holds : tie.Need-loop-holds Inv-loop μ-loop
-loop-holds c = rw (c .place-of .ensures) (burst-start (c .before .before .before .before .before .pre), refl)
+loop-holds c = rw (c .before .place-of .ensures) (burst-start (c .before .before .before .before .before .before .pre), refl)
 
 reach-requires : tie.Need-reach-requires Inv-loop μ-loop
 reach-requires c κs = placed-in (c .before .loop .inv .0) (c .before .loop .inv .1)
@@ -112,7 +112,7 @@ least-requires c κs = (c .reach .ensures .0, omega (arith, c .before .loop-test
 
 stretch-requires : tie.Need-stretch-requires Inv-loop μ-loop
 stretch-requires c κs =
-    let start = c .before .before .before .before .before .before .before .before .before in
+    let start = c .before .before .before .before .before .before .before .before .before .before in
     let inv = c .before .before .before .loop .inv in
     (placed-in (inv .0) (inv .1), omega (arith, c .least .ensures .1, reach-small _ _ _ _ (height-in start) (width-in start) (c .before .reach .ensures .1)))
 
@@ -173,12 +173,12 @@ returns c = rw (c .end .ensures) (ending (c .before))
 
 cast-blitter : tie.Need-cast-blitter Inv-loop μ-loop
 cast-blitter c =
-    let start = c .before .before .before .before .before .before .before .before in
+    let start = c .before .before .before .before .before .before .before .before .before in
     record { fits = omega (arith, c .before .before .loop .inv .0 .place .row-in, rows-small (start .args .blitter .block) (height-in start)) }
 
 cast-blitter-2 : tie.Need-cast-blitter-2 Inv-loop μ-loop
 cast-blitter-2 c =
-    let start = c .before .before .before .before .before .before .before .before .before in
+    let start = c .before .before .before .before .before .before .before .before .before .before in
     record { fits = omega (arith, c .before .before .before .loop .inv .0 .place .col-in, columns-small (start .args .blitter .block) (width-in start)) }
 
 same-length-2 : tie.Need-same-length-2 Inv-loop μ-loop

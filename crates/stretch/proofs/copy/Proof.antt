@@ -9,11 +9,11 @@ use Rattle.stretch.proofs.copy.Statement.{statement}
 use Rattle.stretch.proofs.copy.Tie as tie
 
 abbrev Inv-loop : tie.InvT-loop
-Inv-loop block mem₀ code along step count from₀ to₀ made₀ k₀ mem from to made k =
-    Walk block along step count from₀ to₀ mem₀ code mem from to code made k
+Inv-loop block mem₀ note along step count from₀ to₀ made₀ k₀ mem from to made k =
+    Walk block along step count from₀ to₀ mem₀ note mem from to note made k
 
 abbrev μ-loop : tie.MeasureT-loop
-μ-loop block mem₀ code along step count from₀ to₀ made₀ k₀ mem from to made k =
+μ-loop block mem₀ note along step count from₀ to₀ made₀ k₀ mem from to made k =
     count - k
 
 -- a turn of the loop, when its byte is put

@@ -8,11 +8,11 @@ use Rattle.stretch.proofs.fill.Statement.{statement}
 use Rattle.stretch.proofs.fill.Tie as tie
 
 abbrev Inv-loop : tie.InvT-loop
-Inv-loop block mem₀ code step count to₀ made₀ k₀ mem to made k =
-    Filling block step count to₀ mem₀ code mem to made k × Reached step to k
+Inv-loop block mem₀ note step count to₀ made₀ k₀ mem to made k =
+    Filling block step count to₀ mem₀ note mem to made k × Reached step to k
 
 abbrev μ-loop : tie.MeasureT-loop
-μ-loop block mem₀ code step count to₀ made₀ k₀ mem to made k =
+μ-loop block mem₀ note step count to₀ made₀ k₀ mem to made k =
     count - k
 
 -- a turn of the loop, when its byte is put

@@ -1,6 +1,6 @@
 -- `Blitter::interrupts` meets its contract. Assumes nothing.
 use Rattle.blitter.specs.State.{interrupts}
-use mathlib.Core.Path.{_≡_, refl, sym, ap, _∙_}
+use mathlib.Core.Path.{refl}
 use Rattle.blitter.proofs.Blitter.interrupts.Statement.{statement}
 use Rattle.blitter.proofs.Blitter.interrupts.Tie as tie
 

@@ -18,7 +18,7 @@ level-requires c κs = search needs
 returns : tie.Need-returns
 returns c =
     let a = c .before .before .before .before .args in
-    (none-drawn _ _ _ (rw (sym (c .before .before .good-length .ensures), sym (c .before .level .ensures)) (not-true _ (c .if1 .taken))), by-nothing (a .block) (a .stretch) (a .mem .now) (a .code))
+    (none-drawn _ _ _ (rw (sym (c .before .before .good-length .ensures), sym (c .before .level .ensures)) (not-true _ (c .if1 .taken))), by-nothing (a .block) (a .stretch) (a .mem .now) (a .note))
 
 before-wrap-requires : tie.Need-before-wrap-requires
 before-wrap-requires c κs = sym (c .before .before .good-length .ensures) ∙ both _ _ (not-false _ (c .if1 .left)) .0
@@ -26,7 +26,7 @@ before-wrap-requires c κs = sym (c .before .before .good-length .ensures) ∙ b
 cast-stretch : tie.Need-cast-stretch
 cast-stretch c =
     let g = sym (c .before .before .before .good-length .ensures) ∙ both _ _ (not-false _ (c .before .if1 .left)) .0 in
-    record { fits = omega (arith, part-few _ g _ _ (c .before-wrap .ensures), c .before .before .before .before .before .fits) }
+    record { fits = omega (arith, part-few _ g _ _ (c .before-wrap .ensures)) }
 
 whole-requires : tie.Need-whole-requires
 whole-requires c κs =
@@ -39,9 +39,11 @@ same-length c = search needs
 
 returns-2 : tie.Need-returns-2
 returns-2 c =
-    let good-is = sym (c .before .before .before .before .before .before .before .good-length .ensures) in
-    let level-is = sym (c .before .before .before .before .before .before .level .ensures) in
-    (part-drawn _ _ _ (rw (good-is, level-is) (not-false _ (c .before .before .before .before .before .if1 .left))) (c .before .before .before .before .before-wrap .ensures), c .before .before .whole .ensures)
+    let wrap = c .before .before .before .before .before in
+    let tests = wrap .before .before in
+    let good-is = sym (tests .before .good-length .ensures) in
+    let level-is = sym (tests .level .ensures) in
+    (part-drawn _ _ _ (rw (good-is, level-is) (not-false _ (wrap .before .if1 .left))) (wrap .before-wrap .ensures), c .before .before .before .whole .ensures)
 
 pub draw-spec : {M : Type 1} → statement M
 draw-spec =

@@ -22,7 +22,7 @@ returns : tie.Need-returns
 returns c =
     let start = c .before .before .before .before .before .before .before in
     let p = start .pre in
-    by-fill (start .args .block) (start .args .stretch) (start .args .mem .now) (p .0) (p .2) (start .args .at) (p .3) (p .1) (c .before .before .before .before .if1 .taken) _ (c .before .before .paint .ensures) (start .args .code)
+    by-fill (start .args .block) (start .args .stretch) (start .args .mem .now) (p .0) (p .2) (start .args .at) (p .3) (p .1) (c .before .before .before .before .if1 .taken) _ (c .before .before .paint .ensures) (start .args .note)
 
 copy-requires : tie.Need-copy-requires
 copy-requires c κs =
@@ -46,7 +46,7 @@ returns-2 c =
     let p = start .pre in
     let a = start .args in
     let read = c .before .before .before .before .before .before .if1 .left in
-    by-copy (a .block) (a .stretch) (a .mem .now) (p .0) (p .2) (a .at) (p .3) (p .1) read (a .from) (p .4) (c .before .before .before .before .if2 .taken) _ (c .before .before .copy .ensures) (a .code)
+    by-copy (a .block) (a .stretch) (a .mem .now) (p .0) (p .2) (a .at) (p .3) (p .1) read (a .from) (p .4) (c .before .before .before .before .if2 .taken) _ (c .before .before .copy .ensures) (a .note)
 
 apart-requires : tie.Need-apart-requires
 apart-requires c κs = search needs
@@ -89,7 +89,7 @@ returns-4 c =
     let read = c .before .before .before .before .before .before .before .before .before .before .before .if1 .left in
     let still = c .before .before .before .before .before .before .before .before .before .if2 .left in
     let out = sym (c .before .before .before .before .before .before .before .before .apart .ensures) ∙ not-false _ (c .before .before .before .before .before .before .before .if3 .left) in
-    by-one (a .block) (a .stretch) (a .mem .now) (p .0) (p .2) (a .at) (p .3) (p .1) read (a .from) (p .4) still out _ (c .before .before .paint2 .ensures) (a .code)
+    by-one (a .block) (a .stretch) (a .mem .now) (p .0) (p .2) (a .at) (p .3) (p .1) read (a .from) (p .4) still out _ (c .before .before .paint2 .ensures) (a .note)
 
 pub mode-0-spec : {M : Type 1} → statement M
 mode-0-spec =

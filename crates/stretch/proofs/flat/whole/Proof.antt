@@ -27,12 +27,12 @@ same-length : tie.Need-same-length
 same-length c = search needs
 
 returns : tie.Need-returns
-returns c = let start = c .before .before .before .before .before .before .before .before .before .before in by-loop (start .args .block) (start .args .stretch) (start .args .mem .now) (start .args .code) (start .pre .0) _ (c .before .before .mode-0 .ensures)
+returns c = let start = c .before .before .before .before .before .before .before .before .before .before in by-loop (start .args .block) (start .args .stretch) (start .args .mem .now) (start .args .note) (start .pre .0) _ (c .before .before .mode-0 .ensures)
 
 returns-2 : tie.Need-returns-2
 returns-2 c =
     let start = c .before .before .before .before .before .before .before in
-    by-none (start .args .block) (start .args .stretch) (start .args .mem .now) (start .args .code) (start .pre .0) (sym (c .before .before .mode .ensures) ∙ c .if2 .taken)
+    by-none (start .args .block) (start .args .stretch) (start .args .mem .now) (start .args .note) (start .pre .0) (sym (c .before .before .mode .ensures) ∙ c .if2 .taken)
 
 mix-by-mode-requires : tie.Need-mix-by-mode-requires
 mix-by-mode-requires c κs =
@@ -53,8 +53,8 @@ returns-3 c =
     let at = c .before .before .before .before .before .before .before .before .index in
     let from = c .before .before .before .before .before .before .before .first-source in
     let mode = c .before .before .before .before .before .before .mode in
-    by-loop (a .block) (a .stretch) (a .mem .now) (a .code) (p .0) _
-    (by-mix (a .block) (a .stretch) (a .mem .now) (p .0) (p .1) (at .result) (at .ensures .0) (λ e. c .before .before .before .before .before .if1 .left (mode .ensures ∙ e)) (from .result) (from .ensures .1) _ _ (c .before .before .mix-by-mode .ensures) (a .code))
+    by-loop (a .block) (a .stretch) (a .mem .now) (a .note) (p .0) _
+    (by-mix (a .block) (a .stretch) (a .mem .now) (p .0) (p .1) (at .result) (at .ensures .0) (λ e. c .before .before .before .before .before .if1 .left (mode .ensures ∙ e)) (from .result) (from .ensures .1) _ _ (c .before .before .mix-by-mode .ensures) (a .note))
 
 pub whole-spec : {M : Type 1} → statement M
 whole-spec =
