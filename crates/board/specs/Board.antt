@@ -55,7 +55,7 @@ readByte b offset =
     cond (eqb offset 0x40) 0x10
     (cond (eqb offset 0x41) 0x24
     (cond (eqb offset 0x4A) 0
-    (cond (eqb offset 0x50) (b .blitter .code)
+    (cond (eqb offset 0x50) (b .blitter .note .code)
     (cond (eqb offset 0x53) (b .blitter .flags)
     (cond (eqb offset 0x54) (cond (b .blitter .irqf) 1 0)
     (cond (eqb offset 0x5E) 0

@@ -196,7 +196,7 @@ impl Board {
             0x40 => 0x10,
             0x41 => 0x24,
             0x4A => 0,
-            0x50 => blitter.code,
+            0x50 => blitter.note.code,
             0x53 => blitter.flags,
             0x54 => blitter.irqf as u8,
             0x5E => 0,

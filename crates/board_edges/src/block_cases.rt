@@ -73,7 +73,7 @@ fn other_nibble(mem: &mut [u8]) {
     one.control = 6;
     blitlist::lay(mem, 0, one);
     let mut board = blitlist::started(0, 0, 0);
-    board.blitter.code = 0x33;
+    board.blitter.note.code = 0x33;
     blitlist::ran(b"nibbles 10 on 1F, code 51", board, mem, 9);
     show::cells(mem, 0x1800);
 }

@@ -10,7 +10,7 @@ fn middle(name: &[u8], mem: &mut [u8]) -> Board {
     blitlist::lay(mem, 64, four);
     let mut busy = blitlist::ran(name, blitlist::started(64, 0, 0), mem, 3);
     busy.blitter.irqf = true;
-    busy.blitter.code = 5;
+    busy.blitter.note.code = 5;
     busy
 }
 

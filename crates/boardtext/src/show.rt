@@ -14,7 +14,7 @@ pub fn state(board: Board) {
     let blitter = board.blitter;
     field(b"; flags ", blitter.flags as u64);
     field(b" list ", blitter.list as u64);
-    field(b" code ", blitter.code as u64);
+    field(b" code ", blitter.note.code as u64);
     field(b" row ", blitter.row as u64);
     field(b" col ", blitter.col as u64);
     field(b" irqe ", blitter.irqe as u64);

@@ -35,7 +35,7 @@ module _ (b : Board) (rest : List ℕ) (fits : boardFits (boardWords b ++ rest) 
           irqf = switch-kept (b .blitter .irqf) i;
           list = b .blitter .list;
           flags = byte 10 (lit< tt) refl i;
-          code = byte 11 (lit< tt) refl i;
+          note = record { code = byte 11 (lit< tt) refl i };
           block = record {
             source = record {
               adr0 = byte 12 (lit< tt) refl i;

@@ -63,7 +63,7 @@ blitterOf words =
       irqf = switchIn words 8;
       list = wordAt words 9;
       flags = byteIn words 10;
-      code = byteIn words 11;
+      note = record { code = byteIn words 11 };
       block = blockOf words;
       row = halfIn words 33;
       col = halfIn words 34;
@@ -78,7 +78,7 @@ registerWords b =
     let p = b .ports in
     let t = b .blitter in
     p .video ∷ p .xdladr ∷ p .bladr ∷ p .p0 ∷ p .p1 ∷ p .p2 ∷ p .p3
-    ∷ switchWord (t .irqe) ∷ switchWord (t .irqf) ∷ t .list ∷ t .flags ∷ t .code ∷ []
+    ∷ switchWord (t .irqe) ∷ switchWord (t .irqf) ∷ t .list ∷ t .flags ∷ t .note .code ∷ []
 
 abbrev pub sideWords : Side → List ℕ
 sideWords s = s .adr0 ∷ s .adr1 ∷ s .adr2 ∷ s .y0 ∷ s .y1 ∷ s .x ∷ []

@@ -5,6 +5,7 @@ ghost use Rattle.words.specs.Words.{laid};
 ghost use Rattle.boardwords.specs.Board.{portsOf, sideOf, blockOf, blitterOf, boardOf, sideWords, blockWords, boardWords, boardFits};
 use blitter::Blitter;
 use block::Block;
+use block::Note;
 use board::Board;
 use board::Ports;
 use step::Side;
@@ -71,12 +72,15 @@ fn blitter_of(words: &[u32]) -> Blitter
     ensures { λ r. ⌜ r ≡ blitterOf (now (words .entry)) ⌝ }
 {
     let block = block_of(words);
+    let note = Note {
+        code: byte(words, 11),
+    };
     Blitter {
         irqe: switch(words, 7),
         irqf: switch(words, 8),
         list: word(words, 9),
         flags: byte(words, 10),
-        code: byte(words, 11),
+        note,
         block,
         row: half(words, 33),
         col: half(words, 34),
@@ -172,7 +176,7 @@ pub fn put_board(words: &mut [u32], board: Board)
         blitter.irqf as u32,
         blitter.list,
         blitter.flags as u32,
-        blitter.code as u32,
+        blitter.note.code as u32,
     ];
     let position = [blitter.row as u32, blitter.col as u32];
     if words.len() < BOARD_WORDS {

@@ -44,7 +44,7 @@ fn run(mem: &mut [u8], list: &[u8]) {
     print::text(b"  code ");
     let after = ran.board;
     let blitter = after.blitter;
-    print::number(blitter.code as u64);
+    print::number(blitter.note.code as u64);
     print::text(b"\n");
 }
 

@@ -134,7 +134,7 @@ fn busy(board: Board) -> Board {
     let mut b = board;
     b.blitter.flags = 2;
     b.blitter.list = 85;
-    b.blitter.code = 5;
+    b.blitter.note.code = 5;
     b.blitter.block.width0 = 3;
     b.blitter.block.control = 8;
     b.blitter.col = 2;

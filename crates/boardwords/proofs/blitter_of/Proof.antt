@@ -33,11 +33,11 @@ returns c =
     λ i.
     record {
       block = c .before .before .before .before .before .before .before .block-of .ensures i;
-      irqe = c .before .before .before .before .before .before .switch .ensures i;
-      irqf = c .before .before .before .before .before .switch2 .ensures i;
-      list = c .before .before .before .before .word .ensures i;
-      flags = c .before .before .before .byte .ensures i;
-      code = c .before .before .byte2 .ensures i;
+      note = record { code = c .before .before .before .before .before .before .byte .ensures i };
+      irqe = c .before .before .before .before .before .switch .ensures i;
+      irqf = c .before .before .before .before .switch2 .ensures i;
+      list = c .before .before .before .word .ensures i;
+      flags = c .before .before .byte2 .ensures i;
       row = c .before .half .ensures i;
       col = c .half2 .ensures i;
     }
@@ -47,10 +47,10 @@ blitter-of-spec =
     tie.close
     (tie.spec
     block-of-requires
+    byte-requires
     switch-requires
     switch-requires-2
     word-requires
-    byte-requires
     byte-requires-2
     half-requires
     half-requires-2
