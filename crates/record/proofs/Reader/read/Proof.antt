@@ -47,10 +47,19 @@ returns c =
     let repeat = address .before in
     let control = repeat .before in
     let second = control .before in
-    simp
-    (c .restart .ensures, look .look-group .ensures, field .field-group .ensures, map .map-group .ensures, font .font-group .ensures,
-    scroll .scroll-group .ensures, address .address-group .ensures, repeat .repeat-group .ensures, control .control .ensures,
-    second .before .byte-at .ensures, second .byte-at2 .ensures)
+    simp (
+      c .restart .ensures,
+      look .look-group .ensures,
+      field .field-group .ensures,
+      map .map-group .ensures,
+      font .font-group .ensures,
+      scroll .scroll-group .ensures,
+      address .address-group .ensures,
+      repeat .repeat-group .ensures,
+      control .control .ensures,
+      second .before .byte-at .ensures,
+      second .byte-at2 .ensures,
+    )
 
 pub read-spec : {M : Type 1} → statement M
 read-spec =
