@@ -139,7 +139,14 @@ fn apart(place: usize, at: usize, count: u16) -> bool
 }
 
 // Mode 0: a fill, a copy, or one byte copied many times. Where that byte is written on the way it is read each time.
-fn mode_0(block: Block, mem: &mut [u8], stretch: Stretch, from: usize, at: usize, note: Note) -> Drawn
+fn mode_0(
+    block: Block,
+    mem: &mut [u8],
+    stretch: Stretch,
+    from: usize,
+    at: usize,
+    note: Note,
+) -> Drawn
     requires { ⌜ (goodLength (length (now mem)) ≡ true) × (modeOf block ≡ 0) × Flat (length (now mem)) block stretch × (at ≡ place (length (now mem)) (stretch .to)) × ((block .andmask ≡ 0 → ⊥) → from ≡ place (length (now mem)) (stretch .from)) ⌝ }
     ensures { λ r. ⌜ Draws block stretch (now (mem .entry)) note (now (mem .exit)) r ⌝ }
 {
