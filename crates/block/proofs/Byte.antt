@@ -47,6 +47,10 @@ set-byte (x ∷ m) zero v (suc i) bytes h = bytes (suc i)
 set-byte (x ∷ m) (suc p) v zero bytes h = bytes 0
 set-byte (x ∷ m) (suc p) v (suc i) bytes h = set-byte m p v i (λ j. bytes (suc j)) h
 
+-- a source's access
+pub read-small : (b : Block) → cond (readsSource b) 1 0 ≤ 1
+read-small b = by-cond (λ (v : ℕ). v ≤ 1) (readsSource b) 1 0 (λ _. omega arith) (λ _. omega arith)
+
 module _ (b : Block) (from to : ℕ) (mem : List ℕ) where
   pub written-length : length (writtenBy b from to mem) ≡ length mem
   unfolding writtenBy
@@ -63,9 +67,7 @@ module _ (b : Block) (from to : ℕ) (mem : List ℕ) where
   -- a byte tick has at most 3 accesses
   pub struck-small : (note : Note) → struckBy b mem from to note .accesses ≤ 3
   unfolding struckBy strokeBy strokeOf
-  struck-small note =
-      let read = by-cond (λ (v : ℕ). v ≤ 1) (readsSource b) 1 0 (λ _. omega arith) (λ _. omega arith) in
-      omega (arith, accesses-small (modeOf b) (b .hitmask) (sourceBy b mem from))
+  struck-small note = omega (arith, read-small b, accesses-small (modeOf b) (b .hitmask) (sourceBy b mem from))
 
   module _ (bytes : Bytes mem) where
     source-byte : b .andmask < 256 → b .xormask < 256 → sourceBy b mem from < 256

@@ -5,7 +5,6 @@ use mathlib.Core.List.{List}
 use Prim.Native.Nat.{ℕ, suc, _+_, _-_, _*_, _≤_, _<_}
 use native.Mathlib.Omega.{arith}
 use lib.ListN.{length}
-use Rattle.laws.proofs.Choice.{by-cond}
 use Rattle.vram.specs.Memory.{goodLength}
 use Rattle.mode.specs.Mode.{strokeOf}
 use Rattle.mode.specs.declared.Stroke.{Stroke}
@@ -14,7 +13,7 @@ use Rattle.block.specs.Byte.{readsSource, noted}
 use Rattle.block.specs.declared.Block.{Block}
 use Rattle.block.specs.declared.Note.{Note}
 use Rattle.block.specs.declared.Struck.{Struck}
-use Rattle.block.proofs.Byte.{written-length, struck-small}
+use Rattle.block.proofs.Byte.{written-length, read-small, struck-small}
 use Rattle.stretch.specs.Stretch.{Trace, trace, struck, strokes}
 
 -- a byte less is left, or none
@@ -32,10 +31,6 @@ pub stroke-small : (mode mask s d code : ℕ) (k : Stroke) → k ≡ strokeOf mo
 unfolding strokeOf
 stroke-small mode mask s d code k e = rw (ap (λ (x : Stroke). x .accesses) e) (accesses-small mode mask s)
 
-pub read-small : (b : Block) → cond (readsSource b) 1 0 ≤ 1
-read-small b = by-cond (λ (v : ℕ). v ≤ 1) (readsSource b) 1 0 (λ _. omega arith) (λ _. omega arith)
-
--- both
 pub both-small :
     (b : Block) (mode mask s d code : ℕ) (k : Stroke) (u : Struck) → k ≡ strokeOf mode mask s d code
     → (u .note ≡ noted k) × (u .accesses ≡ k .accesses + cond (readsSource b) 1 0) → u .accesses ≤ 3

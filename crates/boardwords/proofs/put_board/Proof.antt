@@ -34,7 +34,7 @@ cast-t14 : tie.Need-cast-t14
 cast-t14 c = fits-widen tt (c .struct-known8 .given .1 .1 .1 .0)
 
 cast-t15 : tie.Need-cast-t15
-cast-t15 c = fits-widen tt (c .struct-known9 .given .1 .1 .1 .1 .0)
+cast-t15 c = fits-widen tt (c .struct-known9 .given .1 .1 .1 .1 .0 .0)
 
 cast-t7-2 : tie.Need-cast-t7-2
 cast-t7-2 c = fits-widen tt (c .struct-known10 .given .1 .1 .1 .1 .1 .1 .0)
