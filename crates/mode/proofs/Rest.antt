@@ -3,8 +3,7 @@ use mathlib.Core.Path.{_≡_}
 use Prim.Native.Nat.{ℕ, _+_, _≤_, zero-le}
 use native.Mathlib.Omega.{arith}
 
--- one number less is left
-pub next : {m : ℕ} (k : ℕ) → k ≤ m → (m ≡ k → ⊥) → k + 1 ≤ m
+next : {m : ℕ} (k : ℕ) → k ≤ m → (m ≡ k → ⊥) → k + 1 ≤ m
 next k h n = omega arith
 
 pub past7 : {m : ℕ} → (((((((Unit {0} × (m ≡ 0 → ⊥)) × (m ≡ 1 → ⊥)) × (m ≡ 2 → ⊥)) × (m ≡ 3 → ⊥)) × (m ≡ 4 → ⊥)) × (m ≡ 5 → ⊥)) × (m ≡ 6 → ⊥)) → 7 ≤ m
