@@ -160,6 +160,8 @@ fn code_nibbles(mask: u8, s: u8, d: u8, code: u8) -> u8
 
 // An arm for each mode, as in the columns above, though five are equal: with the five joined a byte in mode 1 was
 // measured to take a fifth longer.
+// The collision code after a byte. Modes 1 to 5 have one rule and an arm each: with one arm for the five a byte in mode 1 took
+// a fifth longer.
 fn code_in(mode: u8, mask: u8, s: u8, d: u8, code: u8) -> u8
     ensures { λ r. ⌜ r ≡ codeIn mode mask s d code ⌝ }
 {
