@@ -2,6 +2,7 @@
 // how the board stands; then cells of memory.
 use super::blitlist;
 use super::flat;
+use board::Board;
 use boardtext::show;
 
 // A byte s on a byte d at the beginning of a page, with a collision mask.
@@ -66,15 +67,20 @@ fn nibbles(mem: &mut [u8]) {
     show::cells(mem, 0x1800);
 }
 
+// A board started at 0 that has a collision code.
+fn with_code(code: u8) -> Board {
+    let mut board = blitlist::started(0, 0, 0);
+    board.blitter.note.code = code;
+    board
+}
+
 fn other_nibble(mem: &mut [u8]) {
     vram::install(mem, b"\x1F", 0x1800);
     let mut one = blitlist::fill(0x18, 0x10);
     one.hitmask = 0x80;
     one.control = 6;
     blitlist::lay(mem, 0, one);
-    let mut board = blitlist::started(0, 0, 0);
-    board.blitter.note.code = 0x33;
-    blitlist::ran(b"nibbles 10 on 1F, code 51", board, mem, 9);
+    blitlist::ran(b"nibbles 10 on 1F, code 51", with_code(0x33), mem, 9);
     show::cells(mem, 0x1800);
 }
 
