@@ -108,8 +108,11 @@ blockMost =
     ∷ aByte ∷ aByte ∷ aByte ∷ aByte ∷ aByte ∷ aByte
     ∷ aByte ∷ aByte ∷ aByte ∷ aByte ∷ aByte ∷ aByte ∷ aByte ∷ aByte ∷ aByte ∷ []
 
+abbrev pub positionMost : List ℕ
+positionMost = aHalf ∷ aHalf ∷ []
+
 unfoldable pub boardMost : List ℕ
-boardMost = (registerMost ++ blockMost) ++ (aHalf ∷ aHalf ∷ [])
+boardMost = (registerMost ++ blockMost) ++ positionMost
 
 abbrev pub boardFits : List ℕ → Bool
 boardFits words = within boardMost words 0

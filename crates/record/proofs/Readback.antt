@@ -1,5 +1,5 @@
 -- What a record reads back as: one with all seven data groups (22 bytes), and one with RPTL, OVSCRL, CHBASE and OVATT (8 bytes). Assumes nothing.
-use mathlib.Core.Path.{_≡_, _∙_}
+use mathlib.Core.Path.{_≡_, refl, _∙_}
 use mathlib.Core.Bool.{Bool, true, false, or-true}
 use mathlib.Core.List.{List}
 use Prim.Native.Nat.{ℕ, _+_, _/_, _%_}
@@ -165,4 +165,4 @@ module _ (mem : List ℕ) (r : Reader) (c d : ℕ) where
       (map-none mem r e d 6 _ _ (f .mapadr))
       (field-none mem r e d 6 _ _ (f .mappar))
       (look-read mem r e d 6 _ _ (f .ovatt))
-      ∙ simp (f .mode, f .map, f .ovadr, f .mapadr, f .mappar)
+      ∙ rw (f .mode, f .map, f .ovadr, f .mapadr, f .mappar) refl
