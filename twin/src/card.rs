@@ -3,9 +3,9 @@
 /// The words of a board.
 pub const BOARD_WORDS: usize = 35;
 /// The words of a line's settings.
-pub const SETTINGS_WORDS: usize = 19;
+pub const SETTINGS_WORDS: usize = 20;
 /// The words of a frame.
-pub const FRAME_WORDS: usize = 24;
+pub const FRAME_WORDS: usize = 25;
 
 /// A desk board behind the word interface. Each call answers 0, or a refusal's number plus 256 times its item.
 pub trait Card {

@@ -464,6 +464,11 @@ fn states(r: &mut Random, pair: &mut Pair) {
                 frame[at::FIELD_HEIGHT] = height;
                 frame[at::FIELD] = height - 1 + r.below(2);
             }
+            5 => {
+                // An origin at the end of its range, or past it.
+                make::damage(r, &mut board);
+                frame[at::ORIGIN] = r.pick(&[0, 524_287, 524_288, 524_289, u32::MAX]);
+            }
             _ => {
                 make::damage(r, &mut board);
                 make::damage(r, &mut frame);
@@ -574,7 +579,7 @@ fn plans(r: &mut Random, pair: &mut Pair) {
     write_address(pair, 0x41, address);
     pair.call(Call::Write(0x40, r.byte() | 1));
     pair.call(Call::Start);
-    let meant = meaning(&plan).expect("it was taken");
+    let meant = meaning(&plan, address).expect("it was taken");
     for (number, line) in meant.iter().enumerate() {
         pair.call(Call::NextLine);
         assert_eq!(

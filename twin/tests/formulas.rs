@@ -8,7 +8,7 @@ mod common;
 use common::*;
 use twin::card::Card;
 use twin::random::Random;
-use twin::twin::{meaning, xdl, Board, Frame, Twin};
+use twin::twin::{meaning, xdl, Board, Frame, Refusal, Twin};
 
 /// One tick on the words of a sound board; its accesses.
 fn plain_tick(board: &mut [u32], mem: &mut [u8]) -> u32 {
@@ -183,6 +183,72 @@ fn a_split_run_is_the_whole_run() {
     }
 }
 
+/// The record of each line, from a list that is switched on: each record tells its own size and lines, and the next one
+/// lies behind it.
+fn plain_origins(mem: &[u8], list: u32) -> Vec<u32> {
+    const SIZES: [u32; 7] = [1, 5, 2, 1, 5, 4, 2];
+    let byte = |address: u32| mem[address as usize % 524_288 % mem.len()];
+    let mut origins = Vec::new();
+    let mut record = list;
+    while origins.len() < 240 {
+        let control = u32::from(byte(record)) + 256 * u32::from(byte(record + 1));
+        // RPTL is the lowest bit of the seven groups, and its byte is the first.
+        let groups = control / 32;
+        let repeats = if groups % 2 == 1 { byte(record + 2) } else { 0 };
+        let ends = control >= 32_768;
+        let lines = if ends { 240 } else { 1 + usize::from(repeats) };
+        origins.extend(vec![record; lines]);
+        let data = (0..7).filter(|group| groups >> group & 1 == 1);
+        let size = 2 + data.map(|group| SIZES[group]).sum::<u32>();
+        record = (record + size) % 524_288;
+    }
+    origins.truncate(240);
+    origins
+}
+
+#[test]
+fn a_walk_over_the_records_finds_the_one_of_each_line() {
+    let (mut records, mut wrapped, mut ended) = (0, 0, 0);
+    for seed in 0..3_000 {
+        let mut r = Random::new(seed);
+        let length = make::length(&mut r);
+        let mut rig = Rig::<Twin>::new();
+        rig.mem = make::memory(&mut r, length);
+        let list = if r.chance(7, 8) {
+            make::xdl(&mut r, &mut rig.mem)
+        } else {
+            make::address(&mut r)
+        };
+        rig.show(list);
+        let origins = rig.column(240, at::ORIGIN);
+        assert_eq!(origins, plain_origins(&rig.mem, list), "seed {seed}");
+        let mut known = origins;
+        known.dedup();
+        records += known.len();
+        wrapped += u32::from(!known.is_sorted());
+        ended += rig.frame[at::ENDED];
+    }
+    println!("{records} records, {wrapped} lists over the top, {ended} with an end");
+    assert!(records > 20_000 && wrapped > 200 && ended > 1_000);
+}
+
+#[test]
+fn a_line_that_reads_no_record_keeps_the_one_held() {
+    for seed in 0..5_000 {
+        let mut r = Random::new(seed);
+        let mut rig = Rig::<Twin>::new();
+        rig.mem = make::memory(&mut r, 16_384);
+        rig.frame = make::frame(&mut r);
+        rig.frame[at::LINE] = rig.frame[at::LINE].min(239);
+        let on = rig.frame[at::ON] == 1;
+        let reads = on && rig.frame[at::REPEAT] == 0 && rig.frame[at::ENDED] == 0;
+        let held = rig.frame[if reads { at::POSITION } else { at::ORIGIN }];
+        let told = if on { held } else { NO_RECORD };
+        assert_eq!(rig.line()[at::ORIGIN], told, "seed {seed}");
+        assert_eq!(rig.frame[at::ORIGIN], held, "seed {seed}");
+    }
+}
+
 #[test]
 fn an_xdl_shows_what_its_plan_means() {
     for seed in 0..3_000 {
@@ -193,13 +259,56 @@ fn an_xdl_shows_what_its_plan_means() {
         rig.mem = make::memory(&mut r, 16_384);
         let address = make::address(&mut r);
         assert_eq!(Twin::install(&mut rig.mem, &xdl, address), 0);
-        rig.board[at::XDL_ADR] = address;
-        rig.board[at::VIDEO_CONTROL] = 1;
-        rig.start();
-        let meant = meaning(&plan).expect("the plan is good");
+        rig.show(address);
+        let meant = meaning(&plan, address).expect("the plan is good");
         for (number, (shown, meant)) in rig.lines(240).iter().zip(&meant).enumerate() {
             assert_eq!(*shown, meant.to_words(), "seed {seed}, line {number}");
         }
+    }
+}
+
+#[test]
+fn a_plan_means_records_of_22_and_8_bytes() {
+    let band = Full {
+        lines: 6,
+        ..Full::default()
+    };
+    let more = Running {
+        lines: 2,
+        ..Running::default()
+    };
+    let plan = [band.bytes(), more.bytes(), full()].concat();
+    let meant = meaning(&plan, 524_270).expect("the plan is good");
+    // 524,270 + 22 is 4 past the top, and 8 more are 12.
+    let origins: Vec<_> = meant.iter().map(|line| line.origin).collect();
+    assert_eq!(origins[..6], [524_270; 6]);
+    assert_eq!(origins[6..8], [4; 2]);
+    assert_eq!(origins[8..], [12; 232]);
+}
+
+#[test]
+fn where_a_plan_lies_moves_the_origin_alone() {
+    for seed in 0..1_000 {
+        let mut r = Random::new(seed);
+        let plan = make::plan_items(&mut r).concat();
+        let there = make::address(&mut r);
+        let at_zero = meaning(&plan, 0).expect("the plan is good");
+        let meant = meaning(&plan, there).expect("the plan is good");
+        for (number, (line, zero)) in meant.iter().zip(&at_zero).enumerate() {
+            assert_eq!(line.but_for_origin(), zero.but_for_origin(), "seed {seed}");
+            let moved = (zero.origin + there) % 524_288;
+            assert_eq!(line.origin, moved, "seed {seed}, line {number}");
+        }
+    }
+}
+
+#[test]
+fn a_plan_means_nothing_where_it_cannot_be_installed() {
+    assert!(meaning(&full(), 524_287).is_ok());
+    for address in [524_288, u32::MAX] {
+        let refused = Err(Refusal::Address.into());
+        assert_eq!(meaning(&full(), address), refused);
+        assert_eq!(meaning(&[], address), refused);
     }
 }
 

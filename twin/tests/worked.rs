@@ -124,14 +124,35 @@ fn joined(items: &[Vec<u8>]) -> Vec<u8> {
 }
 
 fn lines_of<C: Card>(plan: &[u8]) -> Vec<[u32; SETTINGS_WORDS]> {
+    lines_at::<C>(plan, 0x1234)
+}
+
+/// The lines of a plan that is installed at an address.
+fn lines_at<C: Card>(plan: &[u8], address: u32) -> Vec<[u32; SETTINGS_WORDS]> {
     let xdl = compile::<C>(plan).expect("the plan is good");
     let mut rig = Rig::<C>::new();
-    assert_eq!(C::install(&mut rig.mem, &xdl, 0x1234), 0);
-    rig.write(0x41, 0x34);
-    rig.write(0x42, 0x12);
-    rig.write(0x40, 1);
-    rig.start();
+    assert_eq!(C::install(&mut rig.mem, &xdl, address), 0);
+    rig.show(address);
     rig.lines(240)
+}
+
+/// Document 02's A1: six lines of a full band, then two of an item that runs on.
+fn six_and_two() -> Vec<u8> {
+    let band = Full {
+        lines: 6,
+        mode: 2,
+        ovadr: 0x1000,
+        ovstep: 0x140,
+        map: 1,
+        mapstep: 3,
+        ..Full::default()
+    };
+    let more = Running {
+        lines: 2,
+        hscroll: 5,
+        ..Running::default()
+    };
+    joined(&[band.bytes(), more.bytes()])
 }
 
 worked! {
@@ -375,7 +396,7 @@ worked! {
         assert_eq!(report, [2, 21, 99]);
         assert_eq!(C::start(&board, &mut frame), 0);
         assert_eq!(C::next_line(&mut frame, &mem, &mut settings), 0);
-        assert_eq!((board[35], frame[24], settings[19]), (99, 99, 99));
+        assert_eq!((board[35], frame[25], settings[20]), (99, 99, 99));
     }
 
     fn refusals_of_a_run_in_order<C>() {
@@ -644,6 +665,7 @@ worked! {
         expected[at::WIDTH] = 1;
         expected[at::OV_PALETTE] = 1;
         expected[at::PRIORITY] = 255;
+        expected[at::ORIGIN] = NO_RECORD;
         expected[at::POSITION] = 0x50000;
         expected[at::ON] = 1;
         assert_eq!(rig.frame, expected);
@@ -766,6 +788,7 @@ worked! {
             (at::OV_PALETTE, 0, 3),
             (at::PF_PALETTE, 0, 3),
             (at::PRIORITY, 0, 255),
+            (at::ORIGIN, 0, 524_288),
             (at::POSITION, 0, 524_287),
             (at::REPEAT, 0, 255),
             (at::ENDED, 0, 1),
@@ -801,7 +824,10 @@ worked! {
         rig.mem.fill(0xFF);
         rig.start();
         let beginning = rig.line();
-        assert_eq!(beginning[..], [0, 0, 0, 0, 0, 0, 0, 0, 0, 0, 0, 0, 8, 8, 0, 1, 1, 0, 255]);
+        assert_eq!(
+            beginning,
+            [0, 0, 0, 0, 0, 0, 0, 0, 0, 0, 0, 0, 8, 8, 0, 1, 1, 0, 255, NO_RECORD]
+        );
         rig.frame[at::MODE] = SR;
         rig.frame[at::OVADR] = 5;
         rig.frame[at::OVSTEP] = 7;
@@ -1544,10 +1570,12 @@ worked! {
         for back in 0..22 {
             let record = [&[0xE2, 0x0F][..], &data].concat();
             let mut rig = Rig::<C>::with_xdl_at(524_288 - back, &record);
+            let origin = (524_288 - back) % 524_288;
             assert_eq!(
-                rig.line()[..],
+                rig.line(),
                 [
-                    SR, 0x40302, 0x605, 7, 0, 9, 0, 0, 0x40B0A, 0xE0D, 15, 16, 18, 19, 0, 1, 1, 0, 20
+                    SR, 0x40302, 0x605, 7, 0, 9, 0, 0, 0x40B0A, 0xE0D, 15, 16, 18, 19, 0, 1, 1, 0, 20,
+                    origin
                 ]
             );
             assert_eq!(rig.frame[at::POSITION], 22 - back);
@@ -1574,6 +1602,143 @@ worked! {
             rig.some(18, &[at::OVADR, at::TEXT]),
             (0..18).map(|k| vec![(0x7FFF0 + k / 8 * 0x20) & 0x7FFFF, k % 8]).collect::<Vec<_>>()
         );
+    }
+
+    // Which record made a line (document 02, A1).
+
+    fn a_line_has_the_record_last_read<C>() {
+        // The first record has 8 bytes, so the second is at 524,288, which is 0.
+        let xdl = [0x62, 0, 2, 0, 0x10, 0, 0x40, 1, 0, 0x80];
+        let mut rig = Rig::<C>::with_xdl_at(524_280, &xdl);
+        let origins = rig.column(240, at::ORIGIN);
+        assert_eq!(origins[..3], [524_280; 3]);
+        assert_eq!(origins[3..], [0; 237]);
+        assert_eq!((rig.frame[at::ORIGIN], rig.frame[at::POSITION]), (0, 2));
+    }
+
+    fn a_new_record_with_nothing_in_it_is_told_too<C>() {
+        // Two bytes a record: 144 of them reach the top, and 95 more are 190 bytes.
+        let mut rig = Rig::<C>::with_xdl_at(524_000, &[]);
+        let origins = rig.column(240, at::ORIGIN);
+        assert_eq!([origins[0], origins[1]], [524_000, 524_002]);
+        assert_eq!([origins[143], origins[144], origins[239]], [524_286, 0, 190]);
+    }
+
+    fn the_record_is_told_by_its_address_and_not_its_cell<C>() {
+        // The bytes are those at 100, but the frame reads them at 3 x 16,384 more.
+        let mut rig = Rig::<C>::new();
+        assert_eq!(C::install(&mut rig.mem, &[0x22, 0, 1, 4, 0x80], 100), 0);
+        rig.show(49_252);
+        assert_eq!(rig.column(4, at::ORIGIN), [49_252, 49_252, 49_255, 49_255]);
+    }
+
+    fn a_frame_not_switched_on_has_no_record<C>() {
+        let mut rig = Rig::<C>::new();
+        rig.start();
+        assert_eq!(rig.column(240, at::ORIGIN), [NO_RECORD; 240]);
+
+        // Neither has one that was handed in with a record, and it keeps what it holds.
+        for (repeat, ended) in [(0, 0), (5, 0), (0, 1)] {
+            let mut rig = Rig::<C>::new();
+            rig.start();
+            rig.frame[at::ORIGIN] = 5;
+            rig.frame[at::REPEAT] = repeat;
+            rig.frame[at::ENDED] = ended;
+            assert_eq!(rig.column(240, at::ORIGIN), [NO_RECORD; 240]);
+            assert_eq!(rig.frame[at::ORIGIN], 5);
+        }
+    }
+
+    fn an_origin_is_an_address_or_none<C>() {
+        for on in [0, 1] {
+            for (origin, answer) in
+                [(524_287, 0), (524_288, 0), (524_289, 15), (1_048_575, 15), (u32::MAX, 15)]
+            {
+                let mut rig = Rig::<C>::with_xdl(&[]);
+                rig.frame[at::ON] = on;
+                rig.frame[at::ORIGIN] = origin;
+                assert_eq!(rig.answer_line(), answer, "{origin}");
+                // After the last line too an unsound frame is 15, and a wrong length is still 1.
+                rig.frame[at::ORIGIN] = origin;
+                rig.frame[at::LINE] = 240;
+                assert_eq!(rig.answer_line(), if answer == 15 { 15 } else { 4 });
+                rig.mem.pop();
+                assert_eq!(rig.answer_line(), 1);
+            }
+        }
+    }
+
+    fn no_line_nor_end_ties_the_origin<C>() {
+        // 524,288 in the middle of a frame is sound, and so is a record before the first line.
+        for (line, origin) in [(100, NO_RECORD), (0, 7)] {
+            for ended in [0, 1] {
+                let mut rig = Rig::<C>::with_xdl(&[]);
+                rig.frame[at::LINE] = line;
+                rig.frame[at::ORIGIN] = origin;
+                rig.frame[at::ENDED] = ended;
+                rig.frame[at::REPEAT] = 1;
+                assert_eq!(rig.line()[at::ORIGIN], origin);
+            }
+        }
+    }
+
+    fn a_repeat_keeps_the_origin<C>() {
+        for origin in [77, 524_287, NO_RECORD] {
+            let mut rig = Rig::<C>::with_xdl_at(0x3000, &[4, 0]);
+            rig.frame[at::ORIGIN] = origin;
+            rig.frame[at::REPEAT] = 2;
+            assert_eq!(rig.column(2, at::ORIGIN), [origin, origin]);
+            assert_eq!(rig.frame[at::ORIGIN], origin);
+            assert_eq!(rig.column(2, at::ORIGIN), [0x3000, 0x3002]);
+        }
+    }
+
+    fn the_lines_below_the_end_keep_the_origin<C>() {
+        for origin in [77, 524_287, NO_RECORD] {
+            for repeat in [0, 2] {
+                let mut rig = Rig::<C>::with_xdl_at(0x3000, &[4, 0]);
+                rig.frame[at::ORIGIN] = origin;
+                rig.frame[at::REPEAT] = repeat;
+                rig.frame[at::ENDED] = 1;
+                assert_eq!(rig.column(240, at::ORIGIN), [origin; 240]);
+                assert_eq!((rig.frame[at::ORIGIN], rig.frame[at::POSITION]), (origin, 0x3000));
+            }
+        }
+    }
+
+    fn the_origin_has_a_word_of_its_own<C>() {
+        let mut rig = Rig::<C>::with_xdl(&[]);
+        let frame = rig.frame;
+        let mut settings = [999; 20];
+        assert_eq!(C::next_line(&mut rig.frame[..24], &rig.mem, &mut settings), 15);
+        assert_eq!(C::next_line(&mut rig.frame, &rig.mem, &mut settings[..19]), 13);
+        assert_eq!(C::start(&rig.board, &mut rig.frame[..24]), 15);
+        assert_eq!((rig.frame, settings), (frame, [999; 20]));
+        assert_eq!(C::next_line(&mut rig.frame[..25], &rig.mem, &mut settings), 0);
+        assert_eq!(settings[19], 0);
+    }
+
+    fn the_records_of_a_plan_have_22_and_8_bytes<C>() {
+        // The items have 27 and 11: the second record would be at 9.
+        let lines = lines_at::<C>(&six_and_two(), 524_270);
+        let origins: Vec<_> = lines.iter().map(|line| line[at::ORIGIN]).collect();
+        assert_eq!(origins[..6], [524_270; 6]);
+        assert_eq!(origins[6..], [4; 234]);
+
+        let plan = joined(&[full(), running(), running(), full()]);
+        let lines = lines_at::<C>(&plan, 0);
+        let origins: Vec<_> = lines[..6].iter().map(|line| line[at::ORIGIN]).collect();
+        assert_eq!(origins, [0, 22, 30, 38, 38, 38]);
+    }
+
+    fn where_a_list_lies_moves_the_origin_alone<C>() {
+        let one = lines_at::<C>(&six_and_two(), 524_270);
+        let other = lines_at::<C>(&six_and_two(), 0x1234);
+        for (number, (one, other)) in one.iter().zip(&other).enumerate() {
+            assert_eq!(one[..19], other[..19], "line {number}");
+            let record = if number < 6 { 0x1234 } else { 0x124A };
+            assert_eq!(other[at::ORIGIN], record, "line {number}");
+        }
     }
 
     // Plans.
@@ -1618,15 +1783,15 @@ worked! {
         let lines = lines_of::<C>(&joined(&[band.bytes(), more.bytes()]));
         assert_eq!(
             lines[0],
-            [SR, 0x40000, 1, 1, 2, 3, 0, 1, 0x50000, 2, 30, 29, 17, 1, 0, 0, 2, 1, 0x12]
+            [SR, 0x40000, 1, 1, 2, 3, 0, 1, 0x50000, 2, 30, 29, 17, 1, 0, 0, 2, 1, 0x12, 0x1234]
         );
         assert_eq!(
             lines[1],
-            [SR, 0x40001, 1, 4, 5, 6, 0, 1, 0x50002, 2, 30, 29, 17, 1, 0, 2, 1, 2, 0x34]
+            [SR, 0x40001, 1, 4, 5, 6, 0, 1, 0x50002, 2, 30, 29, 17, 1, 0, 2, 1, 2, 0x34, 0x124A]
         );
         assert_eq!(
             lines[2],
-            [OFF, 0x40002, 1, 4, 5, 6, 0, 0, 0x50004, 2, 30, 29, 17, 1, 0, 2, 1, 2, 0x34]
+            [OFF, 0x40002, 1, 4, 5, 6, 0, 0, 0x50004, 2, 30, 29, 17, 1, 0, 2, 1, 2, 0x34, 0x124A]
         );
     }
 

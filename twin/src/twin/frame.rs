@@ -1,8 +1,11 @@
-use super::{Refusal, Video, ADDRESS_MASK};
+use super::{Refusal, Video, ADDRESSES, ADDRESS_MASK};
 use std::ops::Deref;
 
 /// The lines of a frame.
 pub const LINES: u8 = 240;
+
+/// The origin of a line for which no record has been read in the frame: the first number that is no address.
+pub const NO_RECORD: u32 = ADDRESSES;
 
 /// What the overlay shows. The values are those of the words and of plans.
 #[derive(Clone, Copy, Debug, Default, PartialEq, Eq)]
@@ -50,6 +53,8 @@ pub struct Settings {
     pub overlay_palette: u8,
     pub playfield_palette: u8,
     pub priority: u8,
+    /// The address of the record that was last read, its first control byte's, or [`NO_RECORD`].
+    pub origin: u32,
 }
 
 /// The settings at the top of the screen.
@@ -75,11 +80,20 @@ impl Default for Settings {
             overlay_palette: 1,
             playfield_palette: 0,
             priority: 255,
+            origin: NO_RECORD,
         }
     }
 }
 
 impl Settings {
+    /// The settings but for the record that they are from: what two lists can have in common.
+    pub fn but_for_origin(self) -> Settings {
+        Settings {
+            origin: NO_RECORD,
+            ..self
+        }
+    }
+
     /// From one line to the next.
     fn advance(&mut self) {
         match self.mode {
@@ -181,6 +195,7 @@ impl Frame {
     {
         use control::*;
 
+        self.settings.origin = self.list;
         let list = &mut self.list;
         let mut fetch = || {
             let byte = video.read(*list);

@@ -12,7 +12,7 @@ mod words;
 
 pub use blitter::{Block, Job, Report, BLOCK_BYTES};
 pub use board::{Board, Budget, Phase, MAX_BUDGET};
-pub use frame::{Frame, Mode, Settings, LINES};
+pub use frame::{Frame, Mode, Settings, LINES, NO_RECORD};
 pub use plan::{install, meaning, xdl, Item, MAX_INSTALL};
 pub use refusal::{Refusal, Refused};
 pub use video::{Video, ADDRESSES, ADDRESS_MASK};

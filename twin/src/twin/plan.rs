@@ -11,6 +11,7 @@ const HEADER_BYTES: usize = 4;
 mod full {
     pub const KIND: u16 = 1;
     pub const BYTES: usize = 23;
+    pub const RECORD_BYTES: usize = 22;
     pub const LINES: usize = 0;
     pub const MODE: usize = 1;
     pub const OVADR: usize = 2;
@@ -34,6 +35,7 @@ mod full {
 mod running {
     pub const KIND: u16 = 2;
     pub const BYTES: usize = 7;
+    pub const RECORD_BYTES: usize = 8;
 }
 
 type FullBody = [u8; full::BYTES];
@@ -116,13 +118,22 @@ impl<'a> Item<'a> {
         own && (1..=LINES).contains(&self.lines()) && self.look().in_range()
     }
 
+    /// The bytes of the item's record in an XDL.
+    fn record_bytes(self) -> u32 {
+        let bytes = match self {
+            Item::Full(_) => full::RECORD_BYTES,
+            Item::Running(_) => running::RECORD_BYTES,
+        };
+        bytes as u32
+    }
+
     /// Puts the item's record behind those in `xdl`, not marked as the last.
     fn encode(self, xdl: &mut Vec<u8>) {
         let repeat = self.lines() - 1;
         let look = self.look();
         match self {
             Item::Full(body) => {
-                let mut record = [0; 22];
+                let mut record = [0; full::RECORD_BYTES];
                 record[0..2].copy_from_slice(&full_control(body).to_le_bytes());
                 record[2] = repeat;
                 record[3..11].copy_from_slice(&body[full::OVADR..full::MAP]);
@@ -135,7 +146,7 @@ impl<'a> Item<'a> {
             }
             Item::Running(_) => {
                 let [low, high] = (RPTL | OVSCRL | CHBASE | OVATT).to_le_bytes();
-                xdl.extend_from_slice(&[
+                let record: [u8; running::RECORD_BYTES] = [
                     low,
                     high,
                     repeat,
@@ -144,7 +155,8 @@ impl<'a> Item<'a> {
                     look.font,
                     look.attributes(),
                     look.priority,
-                ]);
+                ];
+                xdl.extend_from_slice(&record);
             }
         }
     }
@@ -261,9 +273,7 @@ pub fn install<B>(video: &mut Video<B>, list: &[u8], address: u32) -> Result<(),
 where
     B: DerefMut<Target = [u8]>,
 {
-    if address >= ADDRESSES {
-        return Err(Refusal::Address);
-    }
+    check_address(address)?;
     if list.len() > MAX_INSTALL {
         return Err(Refusal::Room);
     }
@@ -273,24 +283,37 @@ where
     Ok(())
 }
 
-/// What each of the 240 lines has, from the meaning of plans alone: no XDL is made or read.
-pub fn meaning(plan: &[u8]) -> Result<Vec<Settings>, Refused> {
+fn check_address(address: u32) -> Result<(), Refusal> {
+    if address < ADDRESSES {
+        Ok(())
+    } else {
+        Err(Refusal::Address)
+    }
+}
+
+/// What each of the 240 lines has when the plan is installed at an address, from the meaning of plans alone: no XDL is
+/// made or read.
+pub fn meaning(plan: &[u8], address: u32) -> Result<Vec<Settings>, Refused> {
+    check_address(address)?;
+    let mut next_record = address;
     let mut lines = Vec::with_capacity(usize::from(LINES));
     let mut band = None;
     let mut below = 0;
     let mut held = Settings::default();
     for item in Items::of(plan)? {
         let item = item?;
+        let origin = next_record;
+        next_record = (origin + item.record_bytes()) & ADDRESS_MASK;
         if let Item::Full(body) = item {
             band = Some(body);
             below = 0;
         }
         let band = band.expect("the first item is a full band");
         for _ in 0..item.lines() {
-            lines.push(line_of(band, below, item.look()));
+            lines.push(line_of(band, below, item.look(), origin));
             below += 1;
         }
-        held = line_of(band, below, item.look());
+        held = line_of(band, below, item.look(), origin);
     }
     held.mode = Mode::Off;
     held.map = false;
@@ -298,8 +321,8 @@ pub fn meaning(plan: &[u8]) -> Result<Vec<Settings>, Refused> {
     Ok(lines)
 }
 
-/// The line that is `below` lines below the first of a full band.
-fn line_of(band: &FullBody, below: u32, look: Look) -> Settings {
+/// The line that is `below` lines below the first of a full band, in an item whose record lies at `origin`.
+fn line_of(band: &FullBody, below: u32, look: Look, origin: u32) -> Settings {
     let mode = Mode::from_number(band[full::MODE].into()).expect("the mode is in range");
     let map = band[full::MAP] == 1;
     let field_height = band[full::FIELD_HEIGHT];
@@ -336,5 +359,6 @@ fn line_of(band: &FullBody, below: u32, look: Look) -> Settings {
         overlay_palette: look.palettes & 3,
         playfield_palette: look.palettes >> 2,
         priority: look.priority,
+        origin,
     }
 }

@@ -2,7 +2,7 @@
 
 use super::{
     Block, Board, Budget, Frame, Job, Mode, Phase, Refusal, Refused, Report, Settings, Video,
-    ADDRESSES, BLOCK_BYTES, LINES,
+    ADDRESSES, BLOCK_BYTES, LINES, NO_RECORD,
 };
 use crate::card::{Card, BOARD_WORDS, FRAME_WORDS, SETTINGS_WORDS};
 
@@ -24,6 +24,11 @@ fn switch(word: u32) -> Result<bool, Refusal> {
 #[inline]
 fn address(word: u32) -> Result<u32, Refusal> {
     ensure(word < ADDRESSES, word)
+}
+
+#[inline]
+fn origin(word: u32) -> Result<u32, Refusal> {
+    ensure(word <= NO_RECORD, word)
 }
 
 #[inline]
@@ -132,6 +137,7 @@ impl Settings {
             overlay_palette: byte_up_to(3, words[16])?,
             playfield_palette: byte_up_to(3, words[17])?,
             priority: byte(words[18])?,
+            origin: origin(words[19])?,
         };
         // A counter below the height also says that the height is not 0.
         ensure(
@@ -162,6 +168,7 @@ impl Settings {
             self.overlay_palette.into(),
             self.playfield_palette.into(),
             self.priority.into(),
+            self.origin,
         ]
     }
 }
@@ -201,7 +208,7 @@ fn split_frame(words: &[u32; FRAME_WORDS]) -> (&[u32; SETTINGS_WORDS], &[u32; 5]
     words
         .split_first_chunk()
         .and_then(|(settings, rest)| Some((settings, rest.first_chunk()?)))
-        .expect("24 words are 19 and 5")
+        .expect("25 words are 20 and 5")
 }
 
 /// The words of a state. A state that is cut short is as unsound as one with a wrong word.

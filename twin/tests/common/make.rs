@@ -4,7 +4,7 @@
 use twin::card::{BOARD_WORDS, FRAME_WORDS};
 use twin::random::Random;
 
-use super::at;
+use super::{at, NO_RECORD};
 
 /// A length that is taken, most often the smallest.
 pub fn length(r: &mut Random) -> usize {
@@ -399,6 +399,14 @@ pub fn extents(block: &[u8; 21]) -> (u32, u32) {
     (rows, columns)
 }
 
+/// An address, or 524,288 where no record has been read.
+fn origin(r: &mut Random) -> u32 {
+    match r.below(4) {
+        0 => NO_RECORD,
+        _ => address(r),
+    }
+}
+
 /// A sound frame.
 pub fn frame(r: &mut Random) -> [u32; FRAME_WORDS] {
     let height = r.between(1, 32);
@@ -422,6 +430,7 @@ pub fn frame(r: &mut Random) -> [u32; FRAME_WORDS] {
         up_to(r, 3),
         up_to(r, 3),
         up_to(r, 255),
+        origin(r),
         address(r),
         r.pick(&[0, 0, 1, 2, 255]),
         up_to(r, 240),
@@ -460,6 +469,7 @@ pub fn odd_word(r: &mut Random) -> u32 {
         65_536,
         524_287,
         524_288,
+        524_289,
         0x7FFF_FFFF,
         0x8000_0000,
         0xFFFF_FF00,

@@ -41,12 +41,13 @@ pub mod at {
     pub const OV_PALETTE: usize = 16;
     pub const PF_PALETTE: usize = 17;
     pub const PRIORITY: usize = 18;
+    pub const ORIGIN: usize = 19;
 
-    pub const POSITION: usize = 19;
-    pub const REPEAT: usize = 20;
-    pub const LINE: usize = 21;
-    pub const ENDED: usize = 22;
-    pub const ON: usize = 23;
+    pub const POSITION: usize = 20;
+    pub const REPEAT: usize = 21;
+    pub const LINE: usize = 22;
+    pub const ENDED: usize = 23;
+    pub const ON: usize = 24;
 }
 
 pub const OFF: u32 = 0;
@@ -54,6 +55,9 @@ pub const TEXT: u32 = 1;
 pub const SR: u32 = 2;
 pub const HR: u32 = 3;
 pub const LR: u32 = 4;
+
+/// The origin of a line where no record has been read in the frame.
+pub const NO_RECORD: u32 = 524_288;
 
 /// A block in the making.
 #[derive(Clone, Copy)]
@@ -343,13 +347,18 @@ impl<C: Card> Rig<C> {
     pub fn with_xdl_at(address: u32, xdl: &[u8]) -> Rig<C> {
         let mut rig = Rig::new();
         rig.put(address, xdl);
-        let bytes = address.to_le_bytes();
-        rig.write(0x41, bytes[0]);
-        rig.write(0x42, bytes[1]);
-        rig.write(0x43, bytes[2]);
-        rig.write(0x40, 1);
-        rig.start();
+        rig.show(address);
         rig
+    }
+
+    /// A frame, switched on, whose list lies at an address.
+    pub fn show(&mut self, address: u32) {
+        let bytes = address.to_le_bytes();
+        self.write(0x41, bytes[0]);
+        self.write(0x42, bytes[1]);
+        self.write(0x43, bytes[2]);
+        self.write(0x40, 1);
+        self.start();
     }
 
     pub fn start(&mut self) {
