@@ -1,7 +1,7 @@
 // A frame as text. A line's settings are printed as
 //   MODE ADDRESS step N scroll H V font F counter N; map on|off ADDRESS step N scroll H V field WxH counter N;
-//   width N palettes OVERLAY PLAYFIELD priority P
-// with addresses, font and priority in hex.
+//   width N palettes OVERLAY PLAYFIELD priority P; record ADDRESS|no record
+// with addresses, font and priority in hex. The record is the one last read for the line.
 use frame::Frame;
 use refusal::Refusal;
 use settings::Look;
@@ -62,16 +62,25 @@ fn look(l: Look) {
     pair(b" ", l.playfield as u16);
     print::text(b" priority ");
     print::hex(l.priority);
-    print::text(b"\n");
+}
+
+fn origin(at: u32) {
+    if at < Settings::NO_RECORD {
+        print::text(b"; record ");
+        print::address(at);
+        return;
+    }
+    print::text(b"; no record");
 }
 
 fn settings(s: Settings) {
     overlay(s.overlay);
     map(s.map);
     look(s.look);
+    origin(s.origin);
 }
 
-// A line, or lines that are all alike.
+// A line, or lines that are all alike. The caller ends the text.
 pub fn lines(from: u16, to: u16, s: Settings) {
     if from == to {
         pair(b"line ", to);
@@ -98,6 +107,7 @@ pub fn holds(f: Frame) {
     state(f);
     print::text(b"holds: ");
     settings(f.reader.settings);
+    print::text(b"\n");
 }
 
 // A line that is refused.

@@ -9,16 +9,48 @@ use settings::Map;
 use settings::Overlay;
 use settings::Settings;
 
-// What is printed so far: up to the frame's line, but for the lines since `from`, which are all alike.
+// In place of a plan's list, where the list is no plan's: no address.
+const NO_PLAN: u32 = 524288;
+
+// What is printed so far: up to the frame's line, but for the lines since `from`, which are all alike; where the plan's list is.
 struct Run {
     frame: Frame,
     from: u16,
+    list: u32,
 }
 
-// What is printed so far, and the line before.
+// What is printed so far, and the line before; where the plan's list is.
 struct Sample {
     frame: Frame,
     before: Settings,
+    list: u32,
+}
+
+// The bytes of a record of a plan's list, by its first: a full band has OVADR, what runs on has not.
+fn record_size(control: u8) -> u16 {
+    if control / 64 % 2 == 1 { 22 } else { 8 }
+}
+
+// The number of the plan's item whose record is at an address.
+fn item_of(mem: &[u8], list: u32, origin: u32) -> u16 {
+    let mut at = list;
+    for i in 0..Frame::LINES {
+        if at == origin {
+            return i;
+        }
+        at = settings::further(at, record_size(vram::byte_at(mem, at, 0)));
+    }
+    Frame::LINES
+}
+
+// A line or lines that are all alike, with the item that made them.
+fn tell(mem: &[u8], list: u32, from: u16, to: u16, s: Settings) {
+    frames::lines(from, to, s);
+    if list < NO_PLAN {
+        print::text(b"; item ");
+        print::number(item_of(mem, list, s.origin) as u64);
+    }
+    print::text(b"\n");
 }
 
 fn same_overlay(a: Overlay, b: Overlay) -> bool {
@@ -50,7 +82,10 @@ fn same_look(a: Look, b: Look) -> bool {
 }
 
 fn same(a: Settings, b: Settings) -> bool {
-    same_overlay(a.overlay, b.overlay) & same_map(a.map, b.map) & same_look(a.look, b.look)
+    same_overlay(a.overlay, b.overlay)
+        & same_map(a.map, b.map)
+        & same_look(a.look, b.look)
+        & (a.origin == b.origin)
 }
 
 fn same_frame(a: Frame, b: Frame) -> bool {
@@ -93,6 +128,7 @@ fn next_alike(frame: Frame, mem: &[u8], s: Settings, moving: bool) -> bool {
 fn run_line(run: Run, mem: &[u8], last: bool) -> Run {
     let frame = run.frame;
     let from = run.from;
+    let list = run.list;
     let next = frame.next_line(mem);
     let after = next.frame;
     let report = next.report;
@@ -103,22 +139,28 @@ fn run_line(run: Run, mem: &[u8], last: bool) -> Run {
         }
         LineReport::Line(s) => {
             if !last & next_alike(after, mem, s, false) {
-                return Run { frame: after, from };
+                return Run {
+                    frame: after,
+                    from,
+                    list,
+                };
             }
-            frames::lines(from, frame.line, s);
+            tell(mem, list, from, frame.line, s);
             Run {
                 frame: after,
                 from: after.line,
+                list,
             }
         }
     }
 }
 
 // The next lines of a frame, those that are all alike as one, and the frame behind them.
-fn joined(frame: Frame, mem: &[u8], count: u16) -> Frame {
+fn joined(frame: Frame, mem: &[u8], list: u32, count: u16) -> Frame {
     let mut run = Run {
         frame,
         from: frame.line,
+        list,
     };
     for i in 0..count {
         run = run_line(run, mem, i + 1 == count);
@@ -128,12 +170,13 @@ fn joined(frame: Frame, mem: &[u8], count: u16) -> Frame {
 
 // The same, and the frame printed.
 pub fn runs(frame: Frame, mem: &[u8], count: u16) {
-    frames::state(joined(frame, mem, count));
+    frames::state(joined(frame, mem, NO_PLAN, count));
 }
 
 // One line more; it is printed where a band begins or ends, and each ninth line, so that every counter is met.
 fn sample_line(sample: Sample, mem: &[u8]) -> Sample {
     let frame = sample.frame;
+    let list = sample.list;
     let next = frame.next_line(mem);
     let after = next.frame;
     let report = next.report;
@@ -146,21 +189,23 @@ fn sample_line(sample: Sample, mem: &[u8]) -> Sample {
             let first = !alike(sample.before, s, true);
             let last = !next_alike(after, mem, s, true);
             if first | last | (frame.line % 9 == 0) {
-                frames::lines(frame.line, frame.line, s);
+                tell(mem, list, frame.line, frame.line, s);
             }
             Sample {
                 frame: after,
                 before: s,
+                list,
             }
         }
     }
 }
 
 // The 240 lines of a frame, as many as show each band.
-fn samples(frame: Frame, mem: &[u8]) {
+fn samples(frame: Frame, mem: &[u8], list: u32) {
     let mut sample = Sample {
         frame,
         before: Settings::new(),
+        list,
     };
     for i in 0..Frame::LINES {
         sample = sample_line(sample, mem);
@@ -187,7 +232,7 @@ pub fn ask(frame: Frame, mem: &[u8]) {
             print::refused(why, 0);
         }
         LineReport::Line(s) => {
-            frames::lines(frame.line, frame.line, s);
+            tell(mem, NO_PLAN, frame.line, frame.line, s);
             frames::holds(after);
         }
     }
@@ -211,22 +256,32 @@ pub fn show(mem: &[u8], address: u32, video: u8, count: u16) {
     }
 }
 
-// A whole frame of the list at the address, switched on: as many lines as show each band.
+// A whole frame of the plan's list at the address, switched on: as many lines as show each band.
 pub fn show_bands(mem: &[u8], address: u32) {
     let start = Frame::start(pointed(address, 1));
     match start {
         FrameStart::Refused(why) => print::refused(why, 0),
-        FrameStart::Started(frame) => samples(frame, mem),
+        FrameStart::Started(frame) => samples(frame, mem, address),
     }
 }
 
-// All its lines, those that are all alike as one.
-pub fn show_joined(mem: &[u8], address: u32) {
+// The frame some lines further on.
+fn behind(frame: Frame, mem: &[u8], count: u16) -> Frame {
+    let mut f = frame;
+    for i in 0..count {
+        let next = f.next_line(mem);
+        f = next.frame;
+    }
+    f
+}
+
+// Some of its lines from one on, those that are all alike as one.
+pub fn show_joined(mem: &[u8], address: u32, from: u16, count: u16) {
     let start = Frame::start(pointed(address, 1));
     match start {
         FrameStart::Refused(why) => print::refused(why, 0),
         FrameStart::Started(frame) => {
-            joined(frame, mem, Frame::LINES);
+            joined(behind(frame, mem, from), mem, address, count);
         }
     }
 }

@@ -2,4 +2,5 @@
 pub mod Cases
 pub mod Sound
 pub mod Lines
+pub mod Origin
 mod Once

@@ -43,7 +43,7 @@ module _ (mem : List ℕ) (bytes : Bytes mem) where
       (λ e. record { settings = k .settings; position = k .position })
       (λ e. by-cond ReaderFits (r .ended) _ _
       (λ e. record { settings = sound-off (r .settings) (k .settings); position = k .position })
-      (λ e. let s = settings-fit (r .settings) (k .settings) in record { settings = settings-sound _ (record-fits mem bytes r s); position = record-position mem bytes r s }))
+      (λ e. let s = settings-fit (r .settings) (k .settings) in record { settings = settings-sound _ (record-fits mem bytes r s (k .position)); position = record-position mem bytes r s (k .position) }))
 
   next-fits : (f : Frame) → FrameFits f → f .line < 240 → FrameFits (nextFrame mem f)
   unfolding nextFrame

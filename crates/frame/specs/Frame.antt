@@ -1,5 +1,6 @@
--- Document 01, "The XDL and its 240 lines": a frame, how it starts, and what its next line reports and leaves.
-use mathlib.Core.Bool.{Bool, false, cond, _&&_}
+-- Document 01, "The XDL and its 240 lines", and document 02, A1: a frame, how it starts, and what its next line reports and leaves.
+use mathlib.Core.Path.{_≡_}
+use mathlib.Core.Bool.{Bool, true, false, cond, _&&_, _||_}
 use mathlib.Core.List.{List}
 use Prim.Native.Nat.{ℕ, zero, suc, _+_, _-_}
 use lib.Dec.{ltb, leb}
@@ -11,7 +12,7 @@ use Rattle.record.specs.Parts.{withSettings, repeating}
 use Rattle.record.specs.Record.{recordOf}
 use Rattle.record.specs.declared.Reader.{Reader}
 use Rattle.refusal.specs.Sheet.{numberOf, Told, done, refused, unless, kept}
-use Rattle.settings.specs.Settings.{beginning, soundSettings, advanced, off}
+use Rattle.settings.specs.Settings.{noRecord, beginning, soundSettings, advanced, off}
 use Rattle.settings.specs.declared.Settings.{Settings}
 use Rattle.vram.specs.Memory.{goodLength}
 use Rattle.frame.specs.declared.Frame.{Frame}
@@ -86,3 +87,16 @@ linesOn mem f (suc k) = linesOn mem (lineFrame f mem) k
 
 abbrev pub lineAt : List ℕ → Frame → ℕ → Told Settings
 lineAt mem f k = lineAnswer (linesOn mem f k) mem
+
+-- A1: the record "that was last read for it". A repeat and a line below the end have the one before, which the frame carries; a line that reads one has
+-- that one; a frame that is not switched on has none
+abbrev pub originOf : Frame → ℕ
+originOf f =
+    let r = f .reader in
+    cond (f .on) (cond (ltb 0 (r .repeat) || r .ended) (r .settings .origin) (r .position)) noRecord
+
+-- every line that is given tells it, and a frame that is switched on carries it to the next
+abbrev pub OriginTold : Type 0
+OriginTold =
+    (f : Frame) (mem : List ℕ) (s : Settings) → lineAnswer f mem ≡ done s
+    → (s .origin ≡ originOf f) × (f .on ≡ true → lineFrame f mem .reader .settings .origin ≡ originOf f)

@@ -29,11 +29,11 @@ fn small(title: &[u8], list: &[u8], at: u32, address: u32) {
     shown(&mut mem, list, at, address, 1, 240);
 }
 
-// In the largest.
-fn large(title: &[u8], list: &[u8], at: u32, address: u32) {
+// The first lines in the largest.
+fn large(title: &[u8], list: &[u8], at: u32, address: u32, count: u16) {
     let mut mem = [0u8; 524288];
     print::text(title);
-    shown(&mut mem, list, at, address, 1, 240);
+    shown(&mut mem, list, at, address, 1, count);
 }
 
 // A list at 0.
@@ -82,7 +82,7 @@ fn worked() {
         b"\x42\x00\x00\x10\x00\x40\x01",
         4,
     );
-    small(b"No END, over the top:", b"\x00\x00", 524280, 524280);
+    small(b"No END, over the top:", b"\x00\x00", 524000, 524000);
     switched(b"Not switched on:", 0);
     switched(b"Not switched on by bits 1 to 3:", 14);
     switched(b"Switched on with bits 1 to 3:", 15);
@@ -94,11 +94,23 @@ fn wraps() {
     small(b"Over 524,288:", list, 524286, 524286);
     small(b"Between the control bytes:", list, 524287, 524287);
     small(b"The list position at the wrap:", list, 524280, 524280);
-    large(b"Over 524,288 in the largest memory:", list, 524286, 524286);
+    large(
+        b"Over 524,288 in the largest memory:",
+        list,
+        524286,
+        524286,
+        240,
+    );
     small(b"Over L:", list, 16380, 16380);
-    large(b"No wrap at 16,384:", list, 16380, 16380);
+    large(b"No wrap at 16,384:", list, 16380, 16380, 240);
     small(b"XDL_ADR above L:", list, 4096, 20480);
-    large(b"XDL_ADR below L:", list, 4096, 20480);
+    large(b"XDL_ADR below L:", list, 4096, 20480, 3);
+    small(
+        b"A record up to the top, and one at 0:",
+        b"\x62\x00\x02\x00\x10\x00\x40\x01\x00\x80",
+        524280,
+        524280,
+    );
     small(
         b"A record of 22 bytes over the top, and one behind it:",
         b"\xEA\x1F\x00\x21\x43\x05\x65\x07\x03\x04\x12\x98\xBA\x01\xDC\x0E\x05\x06\x0F\x03\x92\x5A\x00\x80",

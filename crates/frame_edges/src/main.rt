@@ -24,12 +24,13 @@ fn begun() -> Frame {
     }
 }
 
-// SR at 5, 7 bytes a line.
+// SR at 5, 7 bytes a line, by a record at 77.
 fn picture() -> Frame {
     let mut f = begun();
     f.reader.settings.overlay.mode = 2;
     f.reader.settings.overlay.address = 5;
     f.reader.settings.overlay.step = 7;
+    f.reader.settings.origin = 77;
     f
 }
 
@@ -106,6 +107,7 @@ fn highest() -> Frame {
     f.reader.settings.look.width = 2;
     f.reader.settings.look.palette = 3;
     f.reader.settings.look.playfield = 3;
+    f.reader.settings.origin = 524288;
     f.reader.position = 524287;
     f.reader.repeat = 255;
     f.line = 239;
@@ -173,7 +175,7 @@ fn unsound_counter() {
     ask(b"Field counter 3 of 4, the map off:\n", f);
 }
 
-fn unsound_look() {
+fn unsound_rest() {
     let mut f = highest();
     f.reader.settings.look.width = 3;
     ask(b"Width 3: ", f);
@@ -183,6 +185,11 @@ fn unsound_look() {
     f = highest();
     f.reader.settings.look.playfield = 4;
     ask(b"Playfield palette 4: ", f);
+    f = highest();
+    f.reader.settings.origin = 524289;
+    ask(b"Record 524,289: ", f);
+    f.reader.settings.origin = 524287;
+    ask(b"Record 524,287:\n", f);
     f = highest();
     f.reader.position = 524288;
     ask(b"List position 524,288: ", f);
@@ -251,7 +258,7 @@ fn main() {
     unsound_overlay();
     unsound_map();
     unsound_counter();
-    unsound_look();
+    unsound_rest();
     firsts();
     boards();
 }

@@ -47,6 +47,7 @@ module _ (s : Settings) (rest : List ℕ) (fits : settingsFits (settingsWords s 
           playfield = byte 17 (lit< tt) refl i;
           priority = byte 18 (lit< tt) refl i;
         };
+        origin = s .origin;
       }
 
 settings-rest : (s : Settings) (rest : List ℕ) → settingsFits (settingsWords s) ≡ true → settingsFits (settingsWords s ++ rest) ≡ true
@@ -79,10 +80,10 @@ module _ (f : Frame) (rest : List ℕ) (fits : frameFits (frameWords f ++ rest) 
         reader = record {
           settings = settings-back (f .reader .settings) behind front-fits i;
           position = f .reader .position;
-          repeat = byte-kept frameMost words fits 20 (lit< tt) refl i;
+          repeat = byte-kept frameMost words fits 21 (lit< tt) refl i;
           ended = switch-kept (f .reader .ended) i;
         };
-        line = half-kept frameMost words fits 21 (lit< tt) refl i;
+        line = half-kept frameMost words fits 22 (lit< tt) refl i;
         on = switch-kept (f .on) i;
       }
 

@@ -9,12 +9,12 @@ use Rattle.settings.specs.declared.Settings.{Settings}
 use Rattle.frame.specs.declared.Frame.{Frame}
 use Rattle.words.specs.Words.{wordAt, byteIn, halfIn, switchIn, switchWord, aByte, aHalf, aWord, within}
 
--- "The settings of a line are 19 words", "A frame is 24 words"
+-- "The settings of a line are 20 words", "A frame is 25 words"
 abbrev pub settingsSize : ℕ
-settingsSize = 19
+settingsSize = 20
 
 abbrev pub frameSize : ℕ
-frameSize = 24
+frameSize = 25
 
 -- words 0 to 6: mode, overlay address, overlay step, hscroll, vscroll, font, text counter
 unfoldable pub overlayOf : List ℕ → Overlay
@@ -48,21 +48,23 @@ unfoldable pub lookOf : List ℕ → Look
 lookOf words =
     record { width = byteIn words 15; palette = byteIn words 16; playfield = byteIn words 17; priority = byteIn words 18 }
 
+-- word 19: the record
 unfoldable pub settingsOf : List ℕ → Settings
-settingsOf words = record { overlay = overlayOf words; map = mapOf words; look = lookOf words }
+settingsOf words =
+    record { overlay = overlayOf words; map = mapOf words; look = lookOf words; origin = wordAt words 19 }
 
--- words 0 to 18: its settings; 19 to 23: list position, repeat, line, ended, on. All but line and on are the reader's
+-- words 0 to 19: its settings; 20 to 24: list position, repeat, line, ended, on. All but line and on are the reader's
 unfoldable pub frameOf : List ℕ → Frame
 frameOf words =
     record {
       reader = record {
         settings = settingsOf words;
-        position = wordAt words 19;
-        repeat = byteIn words 20;
-        ended = switchIn words 22;
+        position = wordAt words 20;
+        repeat = byteIn words 21;
+        ended = switchIn words 23;
       };
-      line = halfIn words 21;
-      on = switchIn words 23;
+      line = halfIn words 22;
+      on = switchIn words 24;
     }
 
 -- the other way round, in the same order
@@ -77,7 +79,7 @@ abbrev pub lookWords : Look → List ℕ
 lookWords l = l .width ∷ l .palette ∷ l .playfield ∷ l .priority ∷ []
 
 unfoldable pub settingsWords : Settings → List ℕ
-settingsWords s = overlayWords (s .overlay) ++ mapWords (s .map) ++ lookWords (s .look)
+settingsWords s = overlayWords (s .overlay) ++ mapWords (s .map) ++ lookWords (s .look) ++ (s .origin ∷ [])
 
 abbrev pub placeWords : Frame → List ℕ
 placeWords f =
@@ -93,6 +95,7 @@ settingsMost =
     (aByte ∷ aWord ∷ aHalf ∷ aByte ∷ aByte ∷ aByte ∷ aByte ∷ [])
     ++ (1 ∷ aWord ∷ aHalf ∷ aByte ∷ aByte ∷ aByte ∷ aByte ∷ aByte ∷ [])
     ++ (aByte ∷ aByte ∷ aByte ∷ aByte ∷ [])
+    ++ (aWord ∷ [])
 
 abbrev pub settingsFits : List ℕ → Bool
 settingsFits words = within settingsMost words 0

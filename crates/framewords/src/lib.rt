@@ -16,9 +16,9 @@ use words::switch;
 use words::word;
 
 // The words of a line's settings, and of a frame.
-pub const SETTINGS_WORDS: usize = 19;
+pub const SETTINGS_WORDS: usize = 20;
 
-pub const FRAME_WORDS: usize = 24;
+pub const FRAME_WORDS: usize = 25;
 
 fn overlay_of(words: &[u32]) -> Overlay
     ensures { λ r. ⌜ r ≡ overlayOf (now (words .entry)) ⌝ }
@@ -66,7 +66,12 @@ fn settings_of(words: &[u32]) -> Settings
     let overlay = overlay_of(words);
     let map = map_of(words);
     let look = look_of(words);
-    Settings { overlay, map, look }
+    Settings {
+        overlay,
+        map,
+        look,
+        origin: word(words, 19),
+    }
 }
 
 // The words of a line's settings, laid over what is lent.
@@ -96,6 +101,7 @@ pub fn put_settings(words: &mut [u32], settings: Settings)
         look.palette as u32,
         look.playfield as u32,
         look.priority as u32,
+        settings.origin,
     ];
     lay(words, &new);
 }
@@ -107,14 +113,14 @@ pub fn frame_of(words: &[u32]) -> Frame
     let settings = settings_of(words);
     let reader = Reader {
         settings,
-        position: word(words, 19),
-        repeat: byte(words, 20),
-        ended: switch(words, 22),
+        position: word(words, 20),
+        repeat: byte(words, 21),
+        ended: switch(words, 23),
     };
     Frame {
         reader,
-        line: half(words, 21),
-        on: switch(words, 23),
+        line: half(words, 22),
+        on: switch(words, 24),
     }
 }
 
@@ -142,6 +148,7 @@ pub fn frame_fits(words: &[u32]) -> bool
         255,
         255,
         255,
+        4294967295,
         4294967295,
         255,
         65535,

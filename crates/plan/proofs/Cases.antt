@@ -78,7 +78,7 @@ pub example-read : parse plan ≡ good items
 unfolding soundFull
 example-read = ap parse (sym written) ∙ rules-suffice items refl (refl, tt) (omega arith)
 
--- mode, address, text counter; map address, field counter; hscroll and the palettes
+-- mode, address, text counter; map address, field counter; hscroll and the palettes; the record
 abbrev shown : Settings → List ℕ
 shown s =
     s .overlay .mode
@@ -89,35 +89,37 @@ shown s =
     ∷ s .overlay .hscroll
     ∷ s .look .palette
     ∷ s .look .playfield
+    ∷ s .origin
     ∷ []
 
-abbrev lines : List Item → List ℕ → List (List ℕ)
-lines items [] = []
-lines items (k ∷ ks) = shown (meaning items k) ∷ lines items ks
+abbrev lines : List Item → ℕ → List ℕ → List (List ℕ)
+lines items address [] = []
+lines items address (k ∷ ks) = shown (meaning items address k) ∷ lines items address ks
 
--- SR, 3 lines from 1000h by 140h, and 2 lines that run on: then off, one line further, to line 239
+-- SR, 6 lines from 1000h by 140h, and 2 lines that run on: then off, one line further, to line 239. The list is at 524,270, so its second record,
+-- 22 bytes further, is at 4 (an item of the plan has 27 bytes, which would give 9)
 pixels :
-    lines (band 3 2 4096 320 0 0 8 ∷ onward 2 5 6 ∷ []) (0 ∷ 2 ∷ 3 ∷ 4 ∷ 5 ∷ 239 ∷ [])
-    ≡ (2 ∷ 4096 ∷ 0 ∷ 0 ∷ 0 ∷ 0 ∷ 1 ∷ 0 ∷ [])
-    ∷ (2 ∷ 4736 ∷ 0 ∷ 0 ∷ 0 ∷ 0 ∷ 1 ∷ 0 ∷ [])
-    ∷ (2 ∷ 5056 ∷ 0 ∷ 0 ∷ 0 ∷ 5 ∷ 2 ∷ 1 ∷ [])
-    ∷ (2 ∷ 5376 ∷ 0 ∷ 0 ∷ 0 ∷ 5 ∷ 2 ∷ 1 ∷ [])
-    ∷ (0 ∷ 5696 ∷ 0 ∷ 0 ∷ 0 ∷ 5 ∷ 2 ∷ 1 ∷ [])
-    ∷ (0 ∷ 5696 ∷ 0 ∷ 0 ∷ 0 ∷ 5 ∷ 2 ∷ 1 ∷ [])
+    lines (band 6 2 4096 320 0 0 8 ∷ onward 2 5 6 ∷ []) 524270 (0 ∷ 5 ∷ 6 ∷ 7 ∷ 8 ∷ 239 ∷ [])
+    ≡ (2 ∷ 4096 ∷ 0 ∷ 0 ∷ 0 ∷ 0 ∷ 1 ∷ 0 ∷ 524270 ∷ [])
+    ∷ (2 ∷ 5696 ∷ 0 ∷ 0 ∷ 0 ∷ 0 ∷ 1 ∷ 0 ∷ 524270 ∷ [])
+    ∷ (2 ∷ 6016 ∷ 0 ∷ 0 ∷ 0 ∷ 5 ∷ 2 ∷ 1 ∷ 4 ∷ [])
+    ∷ (2 ∷ 6336 ∷ 0 ∷ 0 ∷ 0 ∷ 5 ∷ 2 ∷ 1 ∷ 4 ∷ [])
+    ∷ (0 ∷ 6656 ∷ 0 ∷ 0 ∷ 0 ∷ 5 ∷ 2 ∷ 1 ∷ 4 ∷ [])
+    ∷ (0 ∷ 6656 ∷ 0 ∷ 0 ∷ 0 ∷ 5 ∷ 2 ∷ 1 ∷ 4 ∷ [])
     ∷ []
 unfolding off overlayBelow mapBelow settingsBelow fullSettings runningSettings meaningFrom
 pixels = refl
 
--- text goes on with its row of characters, a map of fields 3 lines high with its fields; a second full band begins anew
+-- text goes on with its row of characters, a map of fields 3 lines high with its fields; a second full band begins anew. The records are at 7, 29, 37
 text :
-    lines (band 3 1 4096 160 1 50 3 ∷ onward 6 0 1 ∷ band 1 4 524287 1 0 50 3 ∷ []) (0 ∷ 2 ∷ 3 ∷ 7 ∷ 8 ∷ 9 ∷ 10 ∷ [])
-    ≡ (1 ∷ 4096 ∷ 0 ∷ 0 ∷ 0 ∷ 0 ∷ 1 ∷ 0 ∷ [])
-    ∷ (1 ∷ 4096 ∷ 2 ∷ 0 ∷ 2 ∷ 0 ∷ 1 ∷ 0 ∷ [])
-    ∷ (1 ∷ 4096 ∷ 3 ∷ 50 ∷ 0 ∷ 0 ∷ 1 ∷ 0 ∷ [])
-    ∷ (1 ∷ 4096 ∷ 7 ∷ 100 ∷ 1 ∷ 0 ∷ 1 ∷ 0 ∷ [])
-    ∷ (1 ∷ 4256 ∷ 0 ∷ 100 ∷ 2 ∷ 0 ∷ 1 ∷ 0 ∷ [])
-    ∷ (4 ∷ 524287 ∷ 0 ∷ 0 ∷ 0 ∷ 0 ∷ 1 ∷ 0 ∷ [])
-    ∷ (0 ∷ 0 ∷ 0 ∷ 0 ∷ 0 ∷ 0 ∷ 1 ∷ 0 ∷ [])
+    lines (band 3 1 4096 160 1 50 3 ∷ onward 6 0 1 ∷ band 1 4 524287 1 0 50 3 ∷ []) 7 (0 ∷ 2 ∷ 3 ∷ 7 ∷ 8 ∷ 9 ∷ 10 ∷ [])
+    ≡ (1 ∷ 4096 ∷ 0 ∷ 0 ∷ 0 ∷ 0 ∷ 1 ∷ 0 ∷ 7 ∷ [])
+    ∷ (1 ∷ 4096 ∷ 2 ∷ 0 ∷ 2 ∷ 0 ∷ 1 ∷ 0 ∷ 7 ∷ [])
+    ∷ (1 ∷ 4096 ∷ 3 ∷ 50 ∷ 0 ∷ 0 ∷ 1 ∷ 0 ∷ 29 ∷ [])
+    ∷ (1 ∷ 4096 ∷ 7 ∷ 100 ∷ 1 ∷ 0 ∷ 1 ∷ 0 ∷ 29 ∷ [])
+    ∷ (1 ∷ 4256 ∷ 0 ∷ 100 ∷ 2 ∷ 0 ∷ 1 ∷ 0 ∷ 29 ∷ [])
+    ∷ (4 ∷ 524287 ∷ 0 ∷ 0 ∷ 0 ∷ 0 ∷ 1 ∷ 0 ∷ 37 ∷ [])
+    ∷ (0 ∷ 0 ∷ 0 ∷ 0 ∷ 0 ∷ 0 ∷ 1 ∷ 0 ∷ 37 ∷ [])
     ∷ []
 unfolding off overlayBelow mapBelow settingsBelow fullSettings runningSettings meaningFrom
 text = refl

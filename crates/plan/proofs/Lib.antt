@@ -8,5 +8,6 @@ mod Writing
 pub mod Compiling
 pub mod Refused
 pub mod Before
+pub mod Apart
 mod Cases
 mod Once

@@ -1,4 +1,5 @@
 -- Laws of a record.
 pub mod Readback
 pub mod Sound
+pub mod Origin
 mod Once

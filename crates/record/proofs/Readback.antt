@@ -5,7 +5,7 @@ use mathlib.Core.List.{List}
 use Prim.Native.Nat.{ℕ, _+_, _/_, _%_}
 use native.Mathlib.Nat.{mod-add-mod, mod-mod, add-assoc, add-zero}
 use Rattle.laws.specs.Bit.{bit}
-use Rattle.settings.specs.Parts.{overlayAt, inMode, stepping, scrolled, inFont, mapAt, switched, mapStepping, fielded, withOverlay, withMap, withLook}
+use Rattle.settings.specs.Parts.{overlayAt, inMode, stepping, scrolled, inFont, mapAt, switched, mapStepping, fielded, withOverlay, withMap, withLook, withOrigin}
 use Rattle.settings.specs.declared.Settings.{Settings}
 use Rattle.settings.specs.declared.Overlay.{Overlay}
 use Rattle.settings.specs.declared.Map.{Map}
@@ -101,7 +101,8 @@ module _ (mem : List ℕ) (r : Reader) (c d : ℕ) where
   abbrev switchedBy : Settings
   switchedBy =
       let s = r .settings in
-      withMap (switched (mapSwitch c (s .map .on)) (s .map)) (withOverlay (inMode (overlayMode c d (s .overlay .mode)) (s .overlay)) s)
+      let o = inMode (overlayMode c d (s .overlay .mode)) (s .overlay) in
+      withOrigin at (withMap (switched (mapSwitch c (s .map .on)) (s .map)) (withOverlay o s))
 
   repeated : bit c 5 ≡ true → repeatGroup mem c (controlled c d r) ≡ put mem r (bit d 7) 3 (byteAt mem at 2) switchedBy
   unfolding controlled
@@ -132,7 +133,7 @@ module _ (mem : List ℕ) (r : Reader) (c d : ℕ) where
   pub full-record :
       Full c d
       → recordBy mem c d r
-      ≡ put mem r (bit d 7) 22 (byteAt mem at 2) (withLook (lookAt mem at 20) (withMap (fullMap (r .settings .map)) (withOverlay (fullOverlay (r .settings .overlay)) (r .settings))))
+      ≡ put mem r (bit d 7) 22 (byteAt mem at 2) (withLook (lookAt mem at 20) (withMap (fullMap (r .settings .map)) (withOverlay (fullOverlay (r .settings .overlay)) (withOrigin at (r .settings)))))
   unfolding restarted
   full-record f =
       let e = bit d 7 in
@@ -153,7 +154,7 @@ module _ (mem : List ℕ) (r : Reader) (c d : ℕ) where
   pub running-record :
       Running c d
       → recordBy mem c d r
-      ≡ put mem r (bit d 7) 8 (byteAt mem at 2) (withLook (lookAt mem at 6) (withOverlay (runOverlay (r .settings .overlay)) (r .settings)))
+      ≡ put mem r (bit d 7) 8 (byteAt mem at 2) (withLook (lookAt mem at 6) (withOverlay (runOverlay (r .settings .overlay)) (withOrigin at (r .settings))))
   unfolding restarted
   running-record f =
       let e = bit d 7 in

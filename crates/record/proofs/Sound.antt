@@ -12,7 +12,7 @@ use borrow.Author.Tests.{eqb-false, ltb-false}
 use Rattle.laws.proofs.Choice.{by-cond, true-false}
 use Rattle.laws.specs.Bit.{bit}
 use Rattle.settings.proofs.Sound.{OverlayFits, MapFits, LookFits, SettingsFit, overlay-at-fits, in-mode-fits, stepping-fits, scrolled-fits, in-font-fits, map-at-fits, switched-fits, map-stepping-fits}
-use Rattle.settings.specs.Parts.{inMode, mapAt, switched, mapStepping, fielded, withOverlay, withMap, withLook}
+use Rattle.settings.specs.Parts.{inMode, mapAt, switched, mapStepping, fielded, withOverlay, withMap, withLook, withOrigin}
 use Rattle.settings.specs.declared.Settings.{Settings}
 use Rattle.settings.specs.declared.Overlay.{Overlay}
 use Rattle.settings.specs.declared.Map.{Map}
@@ -61,21 +61,31 @@ record Loose (d : ℕ) (s : Settings) : Type 0 where
   map : MapFits (mapAt (s .map .address) 0 (s .map))
   field : bit d 2 ≡ false → s .map .counter < s .map .height
   look : LookFits (s .look)
+  origin : s .origin ≤ 524288
 
 sound-loose : (d : ℕ) (s : Settings) → SettingsFit s → Loose d s
 sound-loose d s f =
     let p = f .map in
-    record { overlay = f .overlay; map = map-at-fits (s .map) p (s .map .address) 0 (p .address) (omega (arith, p .low)); field = λ e. p .counter; look = f .look }
+    record {
+      overlay = f .overlay;
+      map = map-at-fits (s .map) p (s .map .address) 0 (p .address) (omega (arith, p .low));
+      field = λ e. p .counter;
+      look = f .look;
+      origin = f .origin;
+    }
 
 module _ (d : ℕ) (s : Settings) (f : Loose d s) where
   with-overlay : (o : Overlay) → OverlayFits o → Loose d (withOverlay o s)
-  with-overlay o k = record { overlay = k; map = f .map; field = f .field; look = f .look }
+  with-overlay o k = record { overlay = k; map = f .map; field = f .field; look = f .look; origin = f .origin }
 
   with-map : (p : Map) → MapFits (mapAt (p .address) 0 p) → (bit d 2 ≡ false → p .counter < p .height) → Loose d (withMap p s)
-  with-map p k h = record { overlay = f .overlay; map = k; field = h; look = f .look }
+  with-map p k h = record { overlay = f .overlay; map = k; field = h; look = f .look; origin = f .origin }
 
   with-look : (l : Look) → LookFits l → Loose d (withLook l s)
-  with-look l k = record { overlay = f .overlay; map = f .map; field = f .field; look = k }
+  with-look l k = record { overlay = f .overlay; map = f .map; field = f .field; look = k; origin = f .origin }
+
+  with-origin : (at : ℕ) → at < 524288 → Loose d (withOrigin at s)
+  with-origin at k = record { overlay = f .overlay; map = f .map; field = f .field; look = f .look; origin = omega arith }
 
 -- a reader there
 record Fits (d : ℕ) (r : Reader) : Type 0 where
@@ -86,9 +96,9 @@ read-on-fits : (d n : ℕ) (s : Settings) (r : Reader) → Loose d s → Fits d 
 read-on-fits d n s r f = record { settings = f; position = mod-lt (r .position + n) (omega arith) }
 
 module _ (mem : List ℕ) (bytes : Bytes mem) (c d : ℕ) where
-  controlled-fits : (r : Reader) → SettingsFit (r .settings) → Fits d (controlled c d r)
+  controlled-fits : (r : Reader) → SettingsFit (r .settings) → r .position < 524288 → Fits d (controlled c d r)
   unfolding controlled
-  controlled-fits r f =
+  controlled-fits r f at =
       let s = r .settings in
       let o = s .overlay in
       let p = s .map in
@@ -97,7 +107,8 @@ module _ (mem : List ℕ) (bytes : Bytes mem) (c d : ℕ) where
       let on = mapSwitch c (p .on) in
       let k = with-overlay d s l (inMode mode o) (in-mode-fits o (f .overlay) mode (mode-fits c d (o .mode) (f .overlay .mode))) in
       let m = with-map d (withOverlay (inMode mode o) s) k (switched on p) (switched-fits (mapAt (p .address) 0 p) (l .map) on) (l .field) in
-      record { settings = m; position = mod-lt (r .position + 2) (omega arith) }
+      let n = with-origin d (withMap (switched on p) (withOverlay (inMode mode o) s)) m (r .position) at in
+      record { settings = n; position = mod-lt (r .position + 2) (omega arith) }
 
   repeat-fits : (r : Reader) → Fits d r → Fits d (repeatGroup mem c r)
   unfolding repeatGroup
@@ -182,6 +193,7 @@ module _ (mem : List ℕ) (bytes : Bytes mem) (c d : ℕ) where
         overlay = overlay-at-fits o (l .overlay) (o .address) (cond (textRestarts c) 0 (o .counter)) (l .overlay .address) text;
         map = map-at-fits (mapAt (p .address) 0 p) (l .map) (p .address) again (l .map .address) field;
         look = l .look;
+        origin = l .origin;
       }
 
   fetched-fits : (r : Reader) → Fits d r → Fits d (fetchedBy mem c d r)
@@ -189,7 +201,7 @@ module _ (mem : List ℕ) (bytes : Bytes mem) (c d : ℕ) where
       look-group-fits _ (field-fits _ (map-group-fits _ (font-fits _ (scroll-fits _ (address-group-fits _ (repeat-fits r f))))))
 
 -- a sound frame's record leaves sound settings, and a position of 19 bits
-module _ (mem : List ℕ) (bytes : Bytes mem) (r : Reader) (f : SettingsFit (r .settings)) where
+module _ (mem : List ℕ) (bytes : Bytes mem) (r : Reader) (f : SettingsFit (r .settings)) (at : r .position < 524288) where
   abbrev c : ℕ
   c = byteAt mem (r .position) 0
 
@@ -197,7 +209,7 @@ module _ (mem : List ℕ) (bytes : Bytes mem) (r : Reader) (f : SettingsFit (r .
   d = byteAt mem (r .position) 1
 
   read-fits : Fits d (fetchedBy mem c d (controlled c d r))
-  read-fits = fetched-fits mem bytes c d _ (controlled-fits mem bytes c d r f)
+  read-fits = fetched-fits mem bytes c d _ (controlled-fits mem bytes c d r f at)
 
   pub record-fits : SettingsFit (recordOf mem r .settings)
   record-fits = restarted-fits mem bytes c d _ read-fits

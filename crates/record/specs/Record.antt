@@ -4,7 +4,7 @@ use mathlib.Core.List.{List}
 use Prim.Native.Nat.{ℕ, _+_, _/_, _%_}
 use lib.Dec.{eqb, ltb}
 use Rattle.laws.specs.Bit.{bit}
-use Rattle.settings.specs.Parts.{overlayAt, inMode, stepping, scrolled, inFont, mapAt, switched, mapStepping, fielded, withOverlay, withMap}
+use Rattle.settings.specs.Parts.{overlayAt, inMode, stepping, scrolled, inFont, mapAt, switched, mapStepping, fielded, withOverlay, withMap, withOrigin}
 use Rattle.settings.specs.declared.Look.{Look}
 use Rattle.vram.specs.Memory.{byteAt, number12, number19}
 use Rattle.record.specs.Parts.{readOn, overlaid, mapped, looked, withSettings, repeating, endedBy}
@@ -43,13 +43,14 @@ lookAt mem at k =
     let b = byteAt mem at k in
     record { width = displayWidth b; palette = b / 16 % 4; playfield = b / 64 % 4; priority = byteAt mem at (k + 1) }
 
--- the control bytes: the mode, the map, and "XDLC_END", byte 2 bit 7
+-- the control bytes: the mode, the map, and "XDLC_END", byte 2 bit 7; document 02, A1: "the address of the XDL record that was last read", where the
+-- first of them stands
 unfoldable pub controlled : ℕ → ℕ → Reader → Reader
 controlled c d r =
     let s = r .settings in
     let o = inMode (overlayMode c d (s .overlay .mode)) (s .overlay) in
     let p = switched (mapSwitch c (s .map .on)) (s .map) in
-    endedBy (bit d 7) (readOn 2 (withMap p (withOverlay o s)) r)
+    endedBy (bit d 7) (readOn 2 (withOrigin (r .position) (withMap p (withOverlay o s))) r)
 
 -- "XDLC_RPTL (1 byte)"; "RPTL sets repeat; without it repeat is 0"
 unfoldable pub repeatGroup : List ℕ → ℕ → Reader → Reader

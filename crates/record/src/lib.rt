@@ -119,6 +119,9 @@ impl Reader {
         self.settings.overlay.mode = mode;
         let on = map_of(c, self.settings.map.on);
         self.settings.map.on = on;
+        // this record begins where the reader stands now
+        let origin = self.position;
+        self.settings.origin = origin;
         self.ended = d / 128 % 2 == 1;
         self.position = further(self.position, 2);
         self

@@ -8,7 +8,7 @@ use native.Mathlib.Omega.{arith}
 use lib.Dec.{eqb, ltb, leb}
 use borrow.Author.Tests.{ltb-true, leb-true, lt-ltb, le-leb}
 use Rattle.laws.proofs.Choice.{by-cond, each-test}
-use Rattle.settings.specs.Settings.{beginning, soundOverlay, soundMap, soundLook, soundSettings, advancedOverlay, advancedMap, advanced, off}
+use Rattle.settings.specs.Settings.{noRecord, beginning, soundOverlay, soundMap, soundLook, soundSettings, advancedOverlay, advancedMap, advanced, off}
 use Rattle.settings.specs.Parts.{overlayAt, inMode, stepping, scrolled, inFont, mapAt, switched, mapStepping}
 use Rattle.settings.specs.declared.Settings.{Settings}
 use Rattle.settings.specs.declared.Overlay.{Overlay}
@@ -44,6 +44,7 @@ pub record SettingsFit (s : Settings) : Type 0 where
   pub overlay : OverlayFits (s .overlay)
   pub map : MapFits (s .map)
   pub look : LookFits (s .look)
+  pub origin : s .origin ≤ 524288
 
 pub overlay-fits : (o : Overlay) → soundOverlay o ≡ true → OverlayFits o
 overlay-fits o e =
@@ -80,8 +81,13 @@ look-fits l e =
 
 pub settings-fit : (s : Settings) → soundSettings s ≡ true → SettingsFit s
 settings-fit s e =
-    let r = each-test (soundOverlay (s .overlay)) (soundMap (s .map) ∷ soundLook (s .look) ∷ []) e in
-    record { overlay = overlay-fits (s .overlay) (r .0); map = map-fits (s .map) (r .1 .0); look = look-fits (s .look) (r .1 .1 .0) }
+    let r = each-test (soundOverlay (s .overlay)) (soundMap (s .map) ∷ soundLook (s .look) ∷ leb (s .origin) noRecord ∷ []) e in
+    record {
+      overlay = overlay-fits (s .overlay) (r .0);
+      map = map-fits (s .map) (r .1 .0);
+      look = look-fits (s .look) (r .1 .1 .0);
+      origin = leb-true _ _ (r .1 .1 .1 .0);
+    }
 
 -- and back
 pub overlay-sound : (o : Overlay) → OverlayFits o → soundOverlay o ≡ true
@@ -96,7 +102,8 @@ pub look-sound : (l : Look) → LookFits l → soundLook l ≡ true
 look-sound l f = simp (le-leb _ _ (f .width), lt-ltb _ _ (f .palette), lt-ltb _ _ (f .playfield))
 
 pub settings-sound : (s : Settings) → SettingsFit s → soundSettings s ≡ true
-settings-sound s f = simp (overlay-sound (s .overlay) (f .overlay), map-sound (s .map) (f .map), look-sound (s .look) (f .look))
+settings-sound s f =
+    simp (overlay-sound (s .overlay) (f .overlay), map-sound (s .map) (f .map), look-sound (s .look) (f .look), le-leb _ _ (f .origin))
 
 -- an overlay and a map with other parts that are within their ranges
 module _ (o : Overlay) (f : OverlayFits o) where
@@ -156,10 +163,10 @@ pub sound-advanced : (s : Settings) → soundSettings s ≡ true → soundSettin
 unfolding advanced
 sound-advanced s e =
     let f = settings-fit s e in
-    settings-sound (advanced s) (record { overlay = overlay-advances (s .overlay) (f .overlay); map = map-advances (s .map) (f .map); look = f .look })
+    settings-sound (advanced s) (record { overlay = overlay-advances (s .overlay) (f .overlay); map = map-advances (s .map) (f .map); look = f .look; origin = f .origin })
 
 pub sound-off : (s : Settings) → soundSettings s ≡ true → soundSettings (off s) ≡ true
 unfolding off
 sound-off s e =
     let f = settings-fit s e in
-    settings-sound (off s) (record { overlay = in-mode-fits (s .overlay) (f .overlay) 0 (omega arith); map = switched-fits (s .map) (f .map) false; look = f .look })
+    settings-sound (off s) (record { overlay = in-mode-fits (s .overlay) (f .overlay) 0 (omega arith); map = switched-fits (s .map) (f .map) false; look = f .look; origin = f .origin })

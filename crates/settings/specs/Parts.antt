@@ -120,12 +120,15 @@ fielded hscroll vscroll width height p =
       counter = p .counter;
     }
 
--- settings with another overlay, map or look
+-- settings with another overlay, map or look, or made by another record
 abbrev pub withOverlay : Overlay → Settings → Settings
-withOverlay o s = record { overlay = o; map = s .map; look = s .look }
+withOverlay o s = record { overlay = o; map = s .map; look = s .look; origin = s .origin }
 
 abbrev pub withMap : Map → Settings → Settings
-withMap p s = record { overlay = s .overlay; map = p; look = s .look }
+withMap p s = record { overlay = s .overlay; map = p; look = s .look; origin = s .origin }
 
 abbrev pub withLook : Look → Settings → Settings
-withLook l s = record { overlay = s .overlay; map = s .map; look = l }
+withLook l s = record { overlay = s .overlay; map = s .map; look = l; origin = s .origin }
+
+abbrev pub withOrigin : ℕ → Settings → Settings
+withOrigin at s = record { overlay = s .overlay; map = s .map; look = s .look; origin = at }

@@ -43,11 +43,12 @@ pub struct Look {
     pub priority: u8,
 }
 
-// The settings of one scanline.
+// The settings of one scanline, and its origin: the address of the record last read for it, or NO_RECORD.
 pub struct Settings {
     pub overlay: Overlay,
     pub map: Map,
     pub look: Look,
+    pub origin: u32,
 }
 
 // An address one step further, in 19 bits. It is reduced first, so that the sum fits.
@@ -137,6 +138,9 @@ impl Settings {
     // The addresses of 19 bits.
     pub const ADDRESSES: u32 = 524288;
 
+    // The origin where no record has been read in the frame.
+    pub const NO_RECORD: u32 = 524288;
+
     // How a frame begins.
     pub fn new() -> Self
         ensures { λ r. ⌜ r ≡ beginning ⌝ }
@@ -167,6 +171,7 @@ impl Settings {
                 playfield: 0,
                 priority: 255,
             },
+            origin: Settings::NO_RECORD,
         }
     }
 
@@ -176,7 +181,7 @@ impl Settings {
         let overlay = self.overlay;
         let map = self.map;
         let look = self.look;
-        overlay.sound() & map.sound() & look.sound()
+        overlay.sound() & map.sound() & look.sound() & (self.origin <= Settings::NO_RECORD)
     }
 
     // What one displayed line leaves for the next.
@@ -190,6 +195,7 @@ impl Settings {
             overlay: overlay.advance(),
             map: map.advance(),
             look,
+            origin: self.origin,
         }
     }
 

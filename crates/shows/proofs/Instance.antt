@@ -65,7 +65,7 @@ module _
   valid : Valid plan (replicate n 0) (itemsOf (parse plan))
   valid = record { bytes = bytes-below plan bytes; rules = taken; room = omega (arith, length-replicate {A = ℕ} n 0) }
 
-  line-is : (k : ℕ) → k < 240 → line plan n k ≡ done (planMeans plan k)
+  line-is : (k : ℕ) → k < 240 → line plan n k ≡ done (planMeans plan 524286 k)
   line-is = demand-3 plan (replicate n 0) blank (itemsOf (parse plan)) 524286 1 newBoard valid desk .lines
 
 -- "17 00 01 00, 01, seventeen bytes 00, 08 01 01 01 FF"
@@ -76,13 +76,14 @@ example-taken : (parse example ≡ good (itemsOf (parse example))) × (length (b
 unfolding parse rest parseFrom itemAt fitted fullAt soundFull fullRecord
 example-taken = (refl, refl)
 
--- everything off, a field of 8 by 1
+-- everything off, a field of 8 by 1; the list's one record is where the list is
 abbrev example-line : Settings
 example-line =
     record {
       overlay = record { mode = 0; address = 0; step = 0; hscroll = 0; vscroll = 0; font = 0; counter = 0 };
       map = record { on = false; address = 0; step = 0; hscroll = 0; vscroll = 0; width = 8; height = 1; counter = 0 };
       look = record { width = 1; palette = 1; playfield = 0; priority = 255 };
+      origin = 524286;
     }
 
 pub example-first : line example 22 0 ≡ done example-line
@@ -106,11 +107,12 @@ rows-taken : (parse rows ≡ good (itemsOf (parse rows))) × (length (bytesOf (i
 unfolding parse rest parseFrom itemAt fitted fullAt soundFull runningAt soundRunning fullRecord runningRecord
 rows-taken = (refl, refl)
 
--- line 14 runs on: row 1 of text, line 6 of it; row 2 of the map, line 4 of it
+-- line 14 runs on: row 1 of text, line 6 of it; row 2 of the map, line 4 of it; the second record, 22 bytes behind 524,286, is at 20
 pub rows-running : line rows 30 14 ≡ done (record {
   overlay = record { mode = 1; address = 24; step = 40; hscroll = 6; vscroll = 7; font = 8; counter = 6 };
   map = record { on = true; address = 1160; step = 80; hscroll = 4; vscroll = 5; width = 9; height = 5; counter = 4 };
   look = record { width = 0; palette = 2; playfield = 3; priority = 33 };
+  origin = 20;
 })
 unfolding parse rest parseFrom itemAt fitted fullAt soundFull runningAt soundRunning meaningFrom fullSettings runningSettings settingsBelow overlayBelow mapBelow
 rows-running = line-is rows 30 refl (rows-taken .0) (rows-taken .1) 14 (lit< tt)
@@ -120,6 +122,7 @@ pub rows-below : line rows 30 239 ≡ done (record {
   overlay = record { mode = 0; address = 64; step = 40; hscroll = 6; vscroll = 7; font = 8; counter = 0 };
   map = record { on = false; address = 1240; step = 80; hscroll = 4; vscroll = 5; width = 9; height = 5; counter = 1 };
   look = record { width = 0; palette = 2; playfield = 3; priority = 33 };
+  origin = 20;
 })
 unfolding parse rest parseFrom itemAt fitted fullAt soundFull runningAt soundRunning meaningFrom fullSettings runningSettings settingsBelow overlayBelow mapBelow off
 rows-below = line-is rows 30 refl (rows-taken .0) (rows-taken .1) 239 (lit< tt)

@@ -14,7 +14,7 @@ use Rattle.item.specs.declared.Running.{Running}
 use Rattle.item.proofs.Ranges.{full-fits, running-fits}
 use Rattle.plan.specs.Xdl.{overlayBit, mapBit, resolutionBit, endBit, fullRecord, runningRecord}
 use Rattle.plan.specs.Meaning.{itemLook, fullSettings, runningSettings}
-use Rattle.settings.specs.Parts.{overlayAt, inMode, stepping, scrolled, inFont, mapAt, switched, mapStepping, fielded, withOverlay, withMap, withLook}
+use Rattle.settings.specs.Parts.{overlayAt, inMode, stepping, scrolled, inFont, mapAt, switched, mapStepping, fielded, withOverlay, withMap, withLook, withOrigin}
 use Rattle.settings.specs.declared.Settings.{Settings}
 use Rattle.record.specs.Parts.{readOn, repeating, endedBy}
 use Rattle.record.specs.Record.{overlayMode, mapSwitch, fieldWidth, displayWidth, lookAt, recordOf}
@@ -155,7 +155,7 @@ module _ (mem : List ℕ) (r : Reader) where
 
   pub read-full :
       (b : Full) (last : Bool) → soundFull b ≡ true → Holds mem at (fullRecord b last)
-      → recordOf mem r ≡ behind 22 (b .lines - 1) last (fullSettings b)
+      → recordOf mem r ≡ behind 22 (b .lines - 1) last (fullSettings b at)
   unfolding fullRecord fullSettings
   read-full b last s h =
       let f = full-fits b s in
@@ -181,11 +181,11 @@ module _ (mem : List ℕ) (r : Reader) where
       let height = height-back (b .fieldheight) _ (h 19 (lit< tt)) (f .low) (f .high) i in
       let q = fielded maphscroll mapvscroll width height (mapStepping mapaddress mapstep (switched (on i) (r .settings .map))) in
       let look = look-back mem at 20 (b .width) (b .palettes) (b .priority) (h 20 (lit< tt)) (h 21 (lit< tt)) (f .width) (f .palettes) i in
-      behind 22 (h 2 (lit< tt) i) (ended i) (withLook look (withMap (mapAt mapaddress 0 q) (withOverlay (overlayAt address 0 (inFont (h 10 (lit< tt) i) o)) (r .settings)))))
+      behind 22 (h 2 (lit< tt) i) (ended i) (withLook look (withMap (mapAt mapaddress 0 q) (withOverlay (overlayAt address 0 (inFont (h 10 (lit< tt) i) o)) (withOrigin at (r .settings))))))
 
   pub read-running :
       (b : Running) (last : Bool) → soundRunning b ≡ true → Holds mem at (runningRecord b last)
-      → recordOf mem r ≡ behind 8 (b .lines - 1) last (runningSettings b (r .settings))
+      → recordOf mem r ≡ behind 8 (b .lines - 1) last (runningSettings b at (r .settings))
   unfolding runningRecord runningSettings
   read-running b last s h =
       let f = running-fits b s in
@@ -196,4 +196,4 @@ module _ (mem : List ℕ) (r : Reader) where
       let vscroll = scroll-back (b .vscroll) _ (h 4 (lit< tt)) (f .vscroll) i in
       let o = inFont (h 5 (lit< tt) i) (scrolled hscroll vscroll (r .settings .overlay)) in
       let look = look-back mem at 6 (b .width) (b .palettes) (b .priority) (h 6 (lit< tt)) (h 7 (lit< tt)) (f .width) (f .palettes) i in
-      behind 8 (h 2 (lit< tt) i) (running-end last i) (withLook look (withOverlay o (r .settings))))
+      behind 8 (h 2 (lit< tt) i) (running-end last i) (withLook look (withOverlay o (withOrigin at (r .settings)))))

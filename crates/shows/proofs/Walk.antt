@@ -45,15 +45,15 @@ lowered : (e : Latest) (n : ℕ) → settingsAt e n ≡ settingsAt (lower n e) 0
 lowered e n = ap (settingsBelow (e .first)) (sym (add-zero (e .below + n)))
 
 -- a full band's first line; one that runs on leaves addresses and counters as they are
-full-first : (b : Full) → soundItem (full b) ≡ true → fullSettings b ≡ settingsBelow (fullSettings b) (0 + 0)
+full-first : (b : Full) (at : ℕ) → soundItem (full b) ≡ true → fullSettings b at ≡ settingsBelow (fullSettings b at) (0 + 0)
 unfolding fullSettings
-full-first b s =
+full-first b at s =
     let f = full-fits b s in
-    sym (settings-first (fullSettings b) (omega (arith, f .address)) (omega arith) (omega (arith, f .mapaddress)) (omega (arith, f .low)))
+    sym (settings-first (fullSettings b at) (omega (arith, f .address)) (omega arith) (omega (arith, f .mapaddress)) (omega (arith, f .low)))
 
-running-below : (b : Running) (s : Settings) (k : ℕ) → runningSettings b (settingsBelow s k) ≡ settingsBelow (runningSettings b s) k
+running-below : (b : Running) (at : ℕ) (s : Settings) (k : ℕ) → runningSettings b at (settingsBelow s k) ≡ settingsBelow (runningSettings b at s) k
 unfolding runningSettings settingsBelow overlayBelow mapBelow
-running-below b s k = refl
+running-below b at s k = refl
 
 -- an item keeps the field's height, or brings its own
 enter-tall : (it : Item) (l : Latest) → soundItem it ≡ true → (isFull it ≡ true) ⊎ Tall l → Tall (enter it l)
@@ -107,32 +107,32 @@ module _ (mem : List ℕ) where
   ready (it ∷ more) l set e t = inr (e, t)
 
   fetch-item :
-      (it : Item) (more : List Item) (l : Latest) (set : Settings) (p : ℕ) (last : Bool) → soundItem it ≡ true → Ready (it ∷ more) l set
-      → Holds mem p (recordBytes it last)
-      → fetched mem (at-item set p false) ≡ held (enter it l) (linesOf it - 1) ((p + recordSize it) % 524288) 0 last
+      (it : Item) (more : List Item) (l : Latest) (set : Settings) (last : Bool) → soundItem it ≡ true → Ready (it ∷ more) l set
+      → Holds mem (l .next) (recordBytes it last)
+      → fetched mem (at-item set (l .next) false) ≡ held (enter it l) (linesOf it - 1) (enter it l .next) 0 last
   unfolding fetched
-  fetch-item (full b) more l set p last s r h =
-      read-full mem (at-item set p false) b last s h
-      ∙ ap (λ (x : Settings). reading x ((p + 22) % 524288) (b .lines - 1) last) (full-first b s)
-  fetch-item (running b) more l set p last s r h =
+  fetch-item (full b) more l set last s r h =
+      read-full mem (at-item set (l .next) false) b last s h
+      ∙ ap (λ (x : Settings). reading x ((l .next + 22) % 524288) (b .lines - 1) last) (full-first b (l .next) s)
+  fetch-item (running b) more l set last s r h =
       ⊎-elim
       (λ (e : false ≡ true). true-false (sym e))
       (λ e.
-      read-running mem (at-item set p false) b last s h
-      ∙ ap (λ (x : Settings). reading x ((p + 8) % 524288) (b .lines - 1) last)
-      (ap (runningSettings b) (e .0) ∙ running-below b (l .first) (l .below + 0)))
+      read-running mem (at-item set (l .next) false) b last s h
+      ∙ ap (λ (x : Settings). reading x ((l .next + 8) % 524288) (b .lines - 1) last)
+      (ap (runningSettings b (l .next)) (e .0) ∙ running-below b (l .next) (l .first) (l .below + 0)))
       r
 
   as-held :
-      (it : Item) (more : List Item) (l : Latest) (set : Settings) (p : ℕ) (last : Bool) → soundItem it ≡ true → Ready (it ∷ more) l set → Tall (enter it l)
-      → Holds mem p (recordBytes it last)
-      → (k : ℕ) → seen mem (at-item set p false) k ≡ seen mem (held (enter it l) (linesOf it) ((p + recordSize it) % 524288) 0 last) k
-  as-held it more l set p last s r tall h =
-      let p′ = (p + recordSize it) % 524288 in
+      (it : Item) (more : List Item) (l : Latest) (set : Settings) (last : Bool) → soundItem it ≡ true → Ready (it ∷ more) l set → Tall (enter it l)
+      → Holds mem (l .next) (recordBytes it last)
+      → (k : ℕ) → seen mem (at-item set (l .next) false) k ≡ seen mem (held (enter it l) (linesOf it) (enter it l .next) 0 last) k
+  as-held it more l set last s r tall h =
+      let e = enter it l in
       let one : linesOf it ≡ suc (linesOf it - 1) = omega (arith, some-line it s) in
       same-fetch mem _ _
-      (fetch-item it more l set p last s r h
-      ∙ sym (ap (λ (n : ℕ). fetched mem (held (enter it l) n p′ 0 last)) one ∙ fetch-held (enter it l) tall p′ last (linesOf it - 1) 0))
+      (fetch-item it more l set last s r h
+      ∙ sym (ap (λ (n : ℕ). fetched mem (held e n (e .next) 0 last)) one ∙ fetch-held e tall (e .next) last (linesOf it - 1) 0))
 
   -- 3. After the list.
   after-end : (set : Settings) (p k : ℕ) → seen mem (at-item set p true) k ≡ off set
@@ -145,18 +145,15 @@ module _ (mem : List ℕ) where
   split a b h = omega arith
 
   walk :
-      (items : List Item) (l : Latest) (set : Settings) (p : ℕ) → AllSound items → Ready items l set → Holds mem p (bytesOf items)
-      → (k : ℕ) → seen mem (at-item set p (isLast items)) k ≡ meaningFrom items l k
+      (items : List Item) (l : Latest) (set : Settings) → AllSound items → Ready items l set → Holds mem (l .next) (bytesOf items)
+      → (k : ℕ) → seen mem (at-item set (l .next) (isLast items)) k ≡ meaningFrom items l k
   unfolding meaningFrom
-  walk [] l set p s r h k = after-end set p k ∙ ap off r
-  walk (it ∷ more) l set p s r h k =
-      go (decLt k (linesOf it)) (walk more (lower (linesOf it) e) (settingsAt e (0 + linesOf it)) p′ (s .1) (ready more _ _ (ap (settingsAt e) (zero-add (linesOf it)) ∙ lowered e (linesOf it)) tall) back)
+  walk [] l set s r h k = after-end set (l .next) k ∙ ap off r
+  walk (it ∷ more) l set s r h k =
+      go (decLt k (linesOf it)) (walk more (lower (linesOf it) e) (settingsAt e (0 + linesOf it)) (s .1) (ready more _ _ (ap (settingsAt e) (zero-add (linesOf it)) ∙ lowered e (linesOf it)) tall) back)
     where
       e : Latest
       e = enter it l
-
-      p′ : ℕ
-      p′ = (p + recordSize it) % 524288
 
       last : Bool
       last = isLast more
@@ -164,27 +161,27 @@ module _ (mem : List ℕ) where
       tall : Tall (enter it l)
       tall = enter-tall it l (s .0) (⊎-elim (λ f. inl f) (λ t. inr (t .1)) r)
 
-      front : Holds mem p (recordBytes it (isLast more))
-      front = holds-front mem p (recordBytes it (isLast more)) (bytesOf more) h
+      front : Holds mem (l .next) (recordBytes it (isLast more))
+      front = holds-front mem (l .next) (recordBytes it (isLast more)) (bytesOf more) h
 
-      back : Holds mem ((p + recordSize it) % 524288) (bytesOf more)
-      back = holds-back mem p (recordBytes it (isLast more)) (bytesOf more) h (recordSize it) (length-record it (isLast more))
+      back : Holds mem (enter it l .next) (bytesOf more)
+      back = holds-back mem (l .next) (recordBytes it (isLast more)) (bytesOf more) h (recordSize it) (length-record it (isLast more))
 
       go :
-          Dec (k < linesOf it) → ((j : ℕ) → seen mem (at-item (settingsAt e (0 + linesOf it)) p′ (isLast more)) j ≡ meaningFrom more (lower (linesOf it) e) j)
-          → seen mem (at-item set p false) k ≡ cond (ltb k (linesOf it)) (settingsAt e k) (meaningFrom more (lower (linesOf it) e) (k - linesOf it))
+          Dec (k < linesOf it) → ((j : ℕ) → seen mem (at-item (settingsAt e (0 + linesOf it)) (e .next) (isLast more)) j ≡ meaningFrom more (lower (linesOf it) e) j)
+          → seen mem (at-item set (l .next) false) k ≡ cond (ltb k (linesOf it)) (settingsAt e k) (meaningFrom more (lower (linesOf it) e) (k - linesOf it))
       go (yes lt) below =
           simp (lt-ltb k (linesOf it) lt)
-          (as-held it more l set p last (s .0) r tall front k ∙ (held-in e tall p′ last (linesOf it) 0 k lt ∙ ap (settingsAt e) (zero-add k)))
+          (as-held it more l set last (s .0) r tall front k ∙ (held-in e tall (e .next) last (linesOf it) 0 k lt ∙ ap (settingsAt e) (zero-add k)))
       go (no nlt) below =
           simp (le-ltb k (linesOf it) (omega arith))
-          (as-held it more l set p last (s .0) r tall front k
-          ∙ (ap (seen mem (held e (linesOf it) p′ 0 last)) (split k (linesOf it) (omega arith))
-          ∙ (held-out e tall p′ last (linesOf it) 0 (k - linesOf it) ∙ below (k - linesOf it))))
+          (as-held it more l set last (s .0) r tall front k
+          ∙ (ap (seen mem (held e (linesOf it) (e .next) 0 last)) (split k (linesOf it) (omega arith))
+          ∙ (held-out e tall (e .next) last (linesOf it) 0 (k - linesOf it) ∙ below (k - linesOf it))))
 
   -- a plan begins with a full band
   pub walked :
       (items : List Item) (p : ℕ) → AllSound items → StartsFull items → Holds mem p (bytesOf items)
-      → (k : ℕ) → seen mem (at-item beginning p false) k ≡ meaning items k
+      → (k : ℕ) → seen mem (at-item beginning p false) k ≡ meaning items p k
   walked [] p s f h k = absurd f
-  walked (it ∷ more) p s f h k = walk (it ∷ more) (record { first = beginning; below = 0 }) beginning p s (inl f) h k
+  walked (it ∷ more) p s f h k = walk (it ∷ more) (record { first = beginning; below = 0; next = p }) beginning s (inl f) h k

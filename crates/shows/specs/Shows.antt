@@ -34,9 +34,9 @@ abbrev pub lineOf : Told Frame → List ℕ → ℕ → Told Settings
 lineOf (done f) mem k = lineAt mem f k
 lineOf (refused number item) mem k = refused number item
 
--- "each of its 240 lines has exactly the settings the plan means", which are worked out from its items
+-- "each of its 240 lines has exactly the settings the plan means", which are worked out from its items, and their record from the address too
 abbrev pub EachLine : List ℕ → List Item → ℕ → ℕ → Board → Type 0
-EachLine mem items address video b = (k : ℕ) → k < 240 → lineOf (frameStarted address video b) mem k ≡ done (meaning items k)
+EachLine mem items address video b = (k : ℕ) → k < 240 → lineOf (frameStarted address video b) mem k ≡ done (meaning items address k)
 
 -- any memory of a board's length, "any address of a desk board", any sound board, any value that switches the list on
 pub record Desk (mem : List ℕ) (address video : ℕ) (b : Board) : Type 0 where

@@ -5,10 +5,10 @@ use Rattle.boardtext.proofs.lines.joined.Statement.{statement}
 use Rattle.boardtext.proofs.lines.joined.Tie as tie
 
 abbrev Inv-loop : tie.InvT-loop
-Inv-loop mem count run₀ i₀ run i = Unit {0}
+Inv-loop mem list count run₀ i₀ run i = Unit {0}
 
 abbrev μ-loop : tie.MeasureT-loop
-μ-loop mem count run₀ i₀ run i = count - i
+μ-loop mem list count run₀ i₀ run i = count - i
 
 loop-holds : tie.Need-loop-holds Inv-loop μ-loop
 loop-holds c = tt

@@ -5,10 +5,10 @@ use Rattle.boardtext.proofs.lines.samples.Statement.{statement}
 use Rattle.boardtext.proofs.lines.samples.Tie as tie
 
 abbrev Inv-loop : tie.InvT-loop
-Inv-loop mem sample₀ i₀ sample i = Unit {0}
+Inv-loop mem list sample₀ i₀ sample i = Unit {0}
 
 abbrev μ-loop : tie.MeasureT-loop
-μ-loop mem sample₀ i₀ sample i = 240 - i
+μ-loop mem list sample₀ i₀ sample i = 240 - i
 
 new-requires : tie.Need-new-requires Inv-loop μ-loop
 new-requires c κs = tt

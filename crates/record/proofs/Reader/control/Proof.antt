@@ -15,7 +15,7 @@ further-requires c κs = search needs
 
 returns : tie.Need-returns
 unfolding controlled
-returns c = simp (c .before .before .before .before .mode-of .ensures, c .before .before .map-of .ensures, c .further .ensures)
+returns c = simp (c .before .before .before .before .before .mode-of .ensures, c .before .before .before .map-of .ensures, c .further .ensures)
 
 pub control-spec : {M : Type 1} → statement M
 control-spec = tie.close (tie.spec mode-of-requires map-of-requires further-requires returns)
