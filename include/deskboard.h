@@ -130,14 +130,17 @@ enum deskboard_block_byte {
     DESKBOARD_BLOCK_CONTROL = 20 /* bits 0 to 2 the mode, bit 3 NEXT */
 };
 
-/* The settings of a line are 19 words:
+/* The settings of a line are 20 words:
  *   0 mode (0 off, 1 text, 2 SR, 3 HR, 4 LR)   1 overlay address   2 overlay step
  *   3 hscroll   4 vscroll   5 font   6 text counter
  *   7 map on (0, 1)   8 map address   9 map step   10 map hscroll   11 map vscroll
  *  12 field width    13 field height  14 field counter
  *  15 width          16 overlay palette   17 playfield palette   18 priority
+ *  19 record: the address of the record last read for the line, or DESKBOARD_NO_RECORD where none has been read in the frame.
+ *     A record's address is that of its first control byte, 0 to 524,287, whatever the length of memory is.
  */
-#define DESKBOARD_SETTINGS_WORDS 19u
+#define DESKBOARD_NO_RECORD 524288u
+#define DESKBOARD_SETTINGS_WORDS 20u
 enum deskboard_settings_word {
     DESKBOARD_LINE_MODE = 0,
     DESKBOARD_LINE_ADDRESS = 1,
@@ -157,7 +160,8 @@ enum deskboard_settings_word {
     DESKBOARD_LINE_WIDTH = 15,
     DESKBOARD_LINE_OVERLAY_PALETTE = 16,
     DESKBOARD_LINE_PLAYFIELD_PALETTE = 17,
-    DESKBOARD_LINE_PRIORITY = 18
+    DESKBOARD_LINE_PRIORITY = 18,
+    DESKBOARD_LINE_RECORD = 19
 };
 
 /* What the mode and the width of a line are. */
@@ -170,15 +174,15 @@ enum deskboard_mode {
 };
 enum deskboard_width { DESKBOARD_NARROW = 0, DESKBOARD_NORMAL = 1, DESKBOARD_WIDE = 2 };
 
-/* A frame is 24 words: 0..18 its settings, 19 list position, 20 repeat, 21 line, 22 ended (0, 1), 23 on (0, 1). */
-#define DESKBOARD_FRAME_WORDS 24u
-#define DESKBOARD_FRAME_SETTINGS 0u /* the first of 19: frame[DESKBOARD_FRAME_SETTINGS + DESKBOARD_LINE_MODE] is the mode */
+/* A frame is 25 words: 0..19 its settings, 20 list position, 21 repeat, 22 line, 23 ended (0, 1), 24 on (0, 1). */
+#define DESKBOARD_FRAME_WORDS 25u
+#define DESKBOARD_FRAME_SETTINGS 0u /* the first of 20: frame[DESKBOARD_FRAME_SETTINGS + DESKBOARD_LINE_MODE] is the mode */
 enum deskboard_frame_word {
-    DESKBOARD_FRAME_POSITION = 19,
-    DESKBOARD_FRAME_REPEAT = 20,
-    DESKBOARD_FRAME_LINE = 21,
-    DESKBOARD_FRAME_ENDED = 22,
-    DESKBOARD_FRAME_ON = 23
+    DESKBOARD_FRAME_POSITION = 20,
+    DESKBOARD_FRAME_REPEAT = 21,
+    DESKBOARD_FRAME_LINE = 22,
+    DESKBOARD_FRAME_ENDED = 23,
+    DESKBOARD_FRAME_ON = 24
 };
 
 /* The registers, by their offsets. What is written and what is read at one offset has its own name. Writes to other offsets
@@ -236,11 +240,11 @@ uint32_t deskboard_tick(uint32_t *board, size_t board_len, uint8_t *mem, size_t 
  * has NEXT clear, no destination falls on the list modulo L, and nothing else is written between the runs. */
 uint32_t deskboard_run(uint32_t *board, size_t board_len, uint8_t *mem, size_t mem_len, uint32_t budget, uint32_t *report, size_t report_len);
 
-/* Frame start: refusal 15. Makes a frame from a board. At least 35 words of a board, and 24 of a frame, whatever these hold. */
+/* Frame start: refusal 15. Makes a frame from a board. At least 35 words of a board, and 25 of a frame, whatever these hold. */
 uint32_t deskboard_start(const uint32_t *board, size_t board_len, uint32_t *frame, size_t frame_len);
 
-/* The next line: refusals 1, 15, 4, 13. The frame goes on, and the line's settings go to settings[0..18]. At least 24 words of
- * a frame and 19 of settings, and memory of one of the six lengths. */
+/* The next line: refusals 1, 15, 4, 13. The frame goes on, and the line's settings go to settings[0..19]. At least 25 words of
+ * a frame and 20 of settings, and memory of one of the six lengths. */
 uint32_t deskboard_next_line(uint32_t *frame, size_t frame_len, const uint8_t *mem, size_t mem_len, uint32_t *settings, size_t settings_len);
 
 /* Compiles a plan: refusals 6, 5, 7 to 11, 13. The number of bytes goes to report[0]. 5 and 7 to 11 come with the

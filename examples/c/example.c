@@ -4,7 +4,7 @@
  * this program, and runs it. It prints
  *
  *   fill: 5 ticks, 25 accesses, byte 5A
- *   line: 22 bytes, mode 2, address 1000, step 320
+ *   line: 22 bytes, mode 2, address 1000, step 320, record 200
  */
 #include <stdio.h>
 #include "deskboard.h"
@@ -64,8 +64,9 @@ static uint32_t show(void)
     if (refused == 0)
         refused = deskboard_next_line(DESKBOARD_LENT(frame), DESKBOARD_LENT(mem), DESKBOARD_LENT(line));
     if (refused == 0)
-        printf("line: %u bytes, mode %u, address %X, step %u\n", (unsigned)report[DESKBOARD_REPORT_BYTES], (unsigned)line[DESKBOARD_LINE_MODE],
-               (unsigned)line[DESKBOARD_LINE_ADDRESS], (unsigned)line[DESKBOARD_LINE_STEP]);
+        printf("line: %u bytes, mode %u, address %X, step %u, record %X\n", (unsigned)report[DESKBOARD_REPORT_BYTES],
+               (unsigned)line[DESKBOARD_LINE_MODE], (unsigned)line[DESKBOARD_LINE_ADDRESS], (unsigned)line[DESKBOARD_LINE_STEP],
+               (unsigned)line[DESKBOARD_LINE_RECORD]);
     return refused;
 }
 

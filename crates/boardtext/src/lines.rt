@@ -4,6 +4,7 @@ use board::Board;
 use frame::Frame;
 use frame::FrameStart;
 use frame::LineReport;
+use record::Reader;
 use settings::Look;
 use settings::Map;
 use settings::Overlay;
@@ -26,19 +27,19 @@ struct Sample {
     list: u32,
 }
 
-// The bytes of a record of a plan's list, by its first: a full band has OVADR, what runs on has not.
-fn record_size(control: u8) -> u16 {
-    if control / 64 % 2 == 1 { 22 } else { 8 }
-}
-
-// The number of the plan's item whose record is at an address.
+// The number of the item whose record is at an address: each item of a plan has one record, in the same order.
 fn item_of(mem: &[u8], list: u32, origin: u32) -> u16 {
-    let mut at = list;
+    let mut reader = Reader {
+        settings: Settings::new(),
+        position: list,
+        repeat: 0,
+        ended: false,
+    };
     for i in 0..Frame::LINES {
-        if at == origin {
+        if reader.position == origin {
             return i;
         }
-        at = settings::further(at, record_size(vram::byte_at(mem, at, 0)));
+        reader = reader.read(mem);
     }
     Frame::LINES
 }
@@ -265,8 +266,8 @@ pub fn show_bands(mem: &[u8], address: u32) {
     }
 }
 
-// The frame some lines further on.
-fn behind(frame: Frame, mem: &[u8], count: u16) -> Frame {
+// The frame after some lines.
+fn lines_on(frame: Frame, mem: &[u8], count: u16) -> Frame {
     let mut f = frame;
     for i in 0..count {
         let next = f.next_line(mem);
@@ -281,7 +282,7 @@ pub fn show_joined(mem: &[u8], address: u32, from: u16, count: u16) {
     match start {
         FrameStart::Refused(why) => print::refused(why, 0),
         FrameStart::Started(frame) => {
-            joined(behind(frame, mem, from), mem, address, count);
+            joined(lines_on(frame, mem, from), mem, address, count);
         }
     }
 }

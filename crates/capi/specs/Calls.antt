@@ -116,7 +116,7 @@ startCall board frame =
 abbrev pub startWords : List ℕ → List ℕ → List ℕ
 startWords board frame = reportLaid frameWords (startCall board frame) frame
 
--- "The next line: refusals 1, 15, 4, 13. The frame goes on, and the line's settings go to settings[0..18]."
+-- "The next line: refusals 1, 15, 4, 13. The frame goes on, and the line's settings go to settings[0..19]."
 unfoldable pub lineCall : List ℕ → List ℕ → List ℕ → Told Settings
 lineCall frame mem settings =
     reportable settingsSize settings

@@ -88,15 +88,20 @@ linesOn mem f (suc k) = linesOn mem (lineFrame f mem) k
 abbrev pub lineAt : List ℕ → Frame → ℕ → Told Settings
 lineAt mem f k = lineAnswer (linesOn mem f k) mem
 
--- A1: the record "that was last read for it". A repeat and a line below the end have the one before, which the frame carries; a line that reads one has
--- that one; a frame that is not switched on has none
-abbrev pub originOf : Frame → ℕ
-originOf f =
-    let r = f .reader in
-    cond (f .on) (cond (ltb 0 (r .repeat) || r .ended) (r .settings .origin) (r .position)) noRecord
+-- A1: the record "that was last read for it". A repeat and a line below the end have the one before, which the reader carries; a line that reads one has
+-- that one, which begins at the list position
+abbrev pub originFetched : Reader → ℕ
+originFetched r = cond (ltb 0 (r .repeat) || r .ended) (r .settings .origin) (r .position)
 
--- every line that is given tells it, and a frame that is switched on carries it to the next
+-- "and 524,288 where no record has been read in the frame": it is not switched on
+abbrev pub originOf : Frame → ℕ
+originOf f = cond (f .on) (originFetched (f .reader)) noRecord
+
+-- a line tells it, and a frame that is switched on carries it to the next
+pub record OriginGiven (f : Frame) (mem : List ℕ) (s : Settings) : Type 0 where
+  pub told : s .origin ≡ originOf f
+  pub carried : f .on ≡ true → lineFrame f mem .reader .settings .origin ≡ originOf f
+
+-- every line that is given
 abbrev pub OriginTold : Type 0
-OriginTold =
-    (f : Frame) (mem : List ℕ) (s : Settings) → lineAnswer f mem ≡ done s
-    → (s .origin ≡ originOf f) × (f .on ≡ true → lineFrame f mem .reader .settings .origin ≡ originOf f)
+OriginTold = (f : Frame) (mem : List ℕ) (s : Settings) → lineAnswer f mem ≡ done s → OriginGiven f mem s

@@ -5,10 +5,13 @@ use Rattle.boardtext.proofs.lines.item_of.Statement.{statement}
 use Rattle.boardtext.proofs.lines.item_of.Tie as tie
 
 abbrev Inv-loop : tie.InvT-loop
-Inv-loop mem list origin at₀ i₀ at i = Unit {0}
+Inv-loop mem list origin reader₀ i₀ reader i = Unit {0}
 
 abbrev μ-loop : tie.MeasureT-loop
-μ-loop mem list origin at₀ i₀ at i = 240 - i
+μ-loop mem list origin reader₀ i₀ reader i = 240 - i
+
+new-requires : tie.Need-new-requires Inv-loop μ-loop
+new-requires c κs = search needs
 
 loop-holds : tie.Need-loop-holds Inv-loop μ-loop
 loop-holds c = search needs
@@ -16,14 +19,8 @@ loop-holds c = search needs
 returns : tie.Need-returns Inv-loop μ-loop
 returns c = search needs
 
-byte-at-requires : tie.Need-byte-at-requires Inv-loop μ-loop
-byte-at-requires c κs = search needs
-
-record-size-requires : tie.Need-record-size-requires Inv-loop μ-loop
-record-size-requires c κs = search needs
-
-further-requires : tie.Need-further-requires Inv-loop μ-loop
-further-requires c κs = search needs
+read-requires : tie.Need-read-requires Inv-loop μ-loop
+read-requires c κs = search needs
 
 add-i : tie.Need-add-i Inv-loop μ-loop
 add-i c = search needs
@@ -43,11 +40,10 @@ item-of-spec =
     (tie.spec
     Inv-loop
     μ-loop
+    new-requires
     loop-holds
     returns
-    byte-at-requires
-    record-size-requires
-    further-requires
+    read-requires
     add-i
     loop-less
     loop-again

@@ -1,8 +1,8 @@
--- `boardtext::lines::behind` is safe and ends: the measure is what is left of the lines. Assumes nothing.
+-- `boardtext::lines::lines_on` is safe and ends: the measure is what is left of the lines. Assumes nothing.
 use Prim.Native.Nat.{_-_}
 use borrow.Author.Needs.{needs}
-use Rattle.boardtext.proofs.lines.behind.Statement.{statement}
-use Rattle.boardtext.proofs.lines.behind.Tie as tie
+use Rattle.boardtext.proofs.lines.lines_on.Statement.{statement}
+use Rattle.boardtext.proofs.lines.lines_on.Tie as tie
 
 abbrev Inv-loop : tie.InvT-loop
 Inv-loop mem count f₀ i₀ f i = Unit {0}
@@ -28,7 +28,7 @@ loop-again c = search needs
 returns : tie.Need-returns Inv-loop μ-loop
 returns c = search needs
 
-pub behind-spec : {M : Type 1} → statement M
-behind-spec =
+pub lines-on-spec : {M : Type 1} → statement M
+lines-on-spec =
     tie.close
     (tie.spec Inv-loop μ-loop loop-holds next-line-requires add-i loop-less loop-again returns)
