@@ -10,7 +10,7 @@ use settings::Map;
 use settings::Overlay;
 use settings::Settings;
 
-// In place of a plan's list, where the list is no plan's: no address.
+// Stands for the address of a plan's list where the list is no plan's.
 const NO_PLAN: u32 = 524288;
 
 // What is printed so far: up to the frame's line, but for the lines since `from`, which are all alike; where the plan's list is.
@@ -27,7 +27,8 @@ struct Sample {
     list: u32,
 }
 
-// The number of the item whose record is at an address: each item of a plan has one record, in the same order.
+// The number of the item whose record is at an address: each item of a plan has one record, in the same order. It has 240 items
+// at most; 240 where none has that record.
 fn item_of(mem: &[u8], list: u32, origin: u32) -> u16 {
     let mut reader = Reader {
         settings: Settings::new(),
@@ -276,7 +277,7 @@ fn lines_on(frame: Frame, mem: &[u8], count: u16) -> Frame {
     f
 }
 
-// Some of its lines from one on, those that are all alike as one.
+// So many lines of the plan's frame from one on, those that are all alike as one.
 pub fn show_joined(mem: &[u8], address: u32, from: u16, count: u16) {
     let start = Frame::start(pointed(address, 1));
     match start {

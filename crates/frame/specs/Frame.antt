@@ -2,7 +2,7 @@
 use mathlib.Core.Path.{_≡_}
 use mathlib.Core.Bool.{Bool, true, false, cond, _&&_, _||_}
 use mathlib.Core.List.{List}
-use Prim.Native.Nat.{ℕ, zero, suc, _+_, _-_}
+use Prim.Native.Nat.{ℕ, zero, suc, _+_, _-_, _<_}
 use lib.Dec.{ltb, leb}
 use lib.ListN.{length}
 use Rattle.laws.specs.Bit.{bit}
@@ -93,15 +93,22 @@ lineAt mem f k = lineAnswer (linesOn mem f k) mem
 abbrev pub originFetched : Reader → ℕ
 originFetched r = cond (ltb 0 (r .repeat) || r .ended) (r .settings .origin) (r .position)
 
--- "and 524,288 where no record has been read in the frame": it is not switched on
+-- "and 524,288 where no record has been read in the frame": so where it is not switched on
 abbrev pub originOf : Frame → ℕ
 originOf f = cond (f .on) (originFetched (f .reader)) noRecord
 
--- a line tells it, and a frame that is switched on carries it to the next
+-- a line tells it; a frame that is switched on carries it to the next line, one that is not keeps what it holds
 pub record OriginGiven (f : Frame) (mem : List ℕ) (s : Settings) : Type 0 where
   pub told : s .origin ≡ originOf f
-  pub carried : f .on ≡ true → lineFrame f mem .reader .settings .origin ≡ originOf f
+  pub carried : lineFrame f mem .reader .settings .origin ≡ cond (f .on) (originOf f) (f .reader .settings .origin)
 
--- every line that is given
+-- every line that is given, of any frame
 abbrev pub OriginTold : Type 0
 OriginTold = (f : Frame) (mem : List ℕ) (s : Settings) → lineAnswer f mem ≡ done s → OriginGiven f mem s
+
+-- "as a 19-bit number": every line that is given, of a frame that was started and is switched on
+abbrev pub OriginAddress : Type 0
+OriginAddress =
+    (b : Board) (f : Frame) (mem : List ℕ) (k : ℕ) (s : Settings) → startAnswer b ≡ done f → f .on ≡ true
+    → lineAt mem f k ≡ done s
+    → s .origin < 524288

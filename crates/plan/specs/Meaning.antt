@@ -49,7 +49,7 @@ fullSettings b at =
       origin = at;
     }
 
--- a running-on item changes "hscroll, vscroll, font, width, palettes, priority. All else runs on from above."
+-- a running-on item changes "hscroll, vscroll, font, width, palettes, priority. All else runs on from above."; its record is its own
 unfoldable pub runningSettings : Running → ℕ → Settings → Settings
 runningSettings b at s =
     withLook (itemLook (b .width) (b .palettes) (b .priority))

@@ -1,13 +1,13 @@
 // What the lines of a plan show, and which of its records and items made them. The plan is compiled, its list installed at an
 // address, pointed at and switched on; the lines of its frame are printed, those that are all alike as one. With --bands each
 // plan that an argument names is installed over the top of memory, and the lines are printed where a band begins or ends, and
-// each ninth: so the plans beside this program are shown, and compared with what is worked out from the plan alone. Beside the
-// example plans there are, with F a full band and R a running-on item:
+// each ninth: so the plans beside this program are shown, and compared with what is worked out from the plan and the address
+// alone. Beside the example plans there are, with F a full band and R a running-on item:
 //   below.plan          F(3, SR, 1000h, step 140h) R(2, hscroll 5, palettes 6): below the plan what is left is held
 //   row_runs_on.plan    F(3, text, 1000h, step A0h) R(6, vscroll 5): the row of text runs on
 //   field_runs_on.plan  F(3, text, 7FFFFh, step FFFh, map at 7FFF0h, step 10h, fields 17 by 5) R(9) F(12, LR, map) R(1): the field runs on
-//   two_records.plan    F(5, SR, 1000h, step 140h) R(4, else the same): two records that show alike
-mod address;
+//   two_records.plan    F(5, SR, 1000h, step 0) R(4, else the same): nine lines alike but for the record
+mod number;
 
 use boardtext::lines;
 use frame::Frame;
@@ -101,9 +101,9 @@ fn help() {
     );
     io::write_all(
         1,
-        b"LINE is 0 to 239. A plan that is refused prints the number of the refusal and the\n",
+        b"LINE is 0 to 239, or 0x0 to 0xEF. A plan that is refused prints the number of the\n",
     );
-    io::write_all(1, b"item (docs/HELP.md).\n");
+    io::write_all(1, b"refusal and the item (docs/HELP.md).\n");
     io::write_all(
         1,
         b"--bands installs each list over the top of memory, at 524280, and prints the lines\n",
@@ -117,7 +117,7 @@ fn help() {
 }
 
 fn lines_at(at: u32, from: u16, count: u16) {
-    if at < address::NONE {
+    if at < number::NONE {
         file(1, at, View::Lines { from, count });
     } else {
         io::write_all(2, b"ADDRESS is 0 to 524287, or 0x0 to 0x7FFFF\n");
@@ -129,7 +129,7 @@ fn line_at(at: u32, line: u32) {
     if line < Frame::LINES as u32 {
         lines_at(at, line as u16, 1);
     } else {
-        io::write_all(2, b"LINE is 0 to 239\n");
+        io::write_all(2, b"LINE is 0 to 239, or 0x0 to 0xEF\n");
         usage(2);
     }
 }
@@ -137,8 +137,8 @@ fn line_at(at: u32, line: u32) {
 fn joined(arguments: usize) {
     match arguments {
         2 => lines_at(0, 0, Frame::LINES),
-        3 => lines_at(address::of(2), 0, Frame::LINES),
-        4 => line_at(address::of(2), address::of(3)),
+        3 => lines_at(number::of(2), 0, Frame::LINES),
+        4 => line_at(number::of(2), number::of(3)),
         _ => usage(2),
     }
 }

@@ -1,6 +1,5 @@
 -- A record sets the origin to where it begins, and none of its data moves it. Assumes nothing.
 use mathlib.Core.Path.{_≡_, refl, _∙_}
-use mathlib.Core.Bool.{Bool}
 use mathlib.Core.List.{List}
 use Prim.Native.Nat.{ℕ}
 use Rattle.laws.proofs.Choice.{by-cond}

@@ -1,15 +1,15 @@
--- `planlines::address::digits` is safe and ends: the measure is what is left of the word. Assumes nothing.
+-- `planlines::number::digits` is safe and ends: the measure is what is left of the word. Assumes nothing.
 use Prim.Native.Nat.{_-_}
 use lib.ListN.{length}
 use borrow.Author.Needs.{needs}
-use Rattle.planlines.proofs.address.digits.Statement.{statement}
-use Rattle.planlines.proofs.address.digits.Tie as tie
+use Rattle.planlines.proofs.number.digits.Statement.{statement}
+use Rattle.planlines.proofs.number.digits.Tie as tie
 
 abbrev Inv-loop : tie.InvT-loop
-Inv-loop word from hex address₀ i₀ i-end address i = Unit {0}
+Inv-loop word from hex number₀ i₀ i-end number i = Unit {0}
 
 abbrev μ-loop : tie.MeasureT-loop
-μ-loop word from hex address₀ i₀ i-end address i = length word - i
+μ-loop word from hex number₀ i₀ i-end number i = length word - i
 
 returns : tie.Need-returns Inv-loop μ-loop
 returns c = search needs

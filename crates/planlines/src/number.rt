@@ -1,6 +1,6 @@
-// An address as an argument writes it: decimal, or 0x and hex.
+// A number as an argument writes it: an address or a line, decimal, or 0x and hex.
 
-// What no address is: behind the last.
+// What stands for no number, and for all that are too large: behind the last address.
 pub const NONE: u32 = 524288;
 
 // What a digit counts; 16 where it is none.
@@ -13,22 +13,22 @@ fn digit(c: u8) -> u32 {
     }
 }
 
-// An address with a digit behind it.
-fn with_digit(address: u32, c: u8, hex: bool) -> u32 {
+// A number with a digit behind it.
+fn with_digit(number: u32, c: u8, hex: bool) -> u32 {
     let d = digit(c);
-    if NONE <= address {
+    if NONE <= number {
         return NONE;
     }
     if 16 <= d {
         return NONE;
     }
     if hex {
-        return below(address * 16 + d);
+        return below(number * 16 + d);
     }
     if 10 <= d {
         return NONE;
     }
-    below(address * 10 + d)
+    below(number * 10 + d)
 }
 
 fn below(n: u32) -> u32 {
@@ -40,11 +40,11 @@ fn digits(word: &[u8], from: usize, hex: bool) -> u32 {
     if word.len() <= from {
         return NONE;
     }
-    let mut address = 0;
+    let mut number = 0;
     for i in from..word.len() {
-        address = with_digit(address, word[i], hex);
+        number = with_digit(number, word[i], hex);
     }
-    address
+    number
 }
 
 fn is_hex(word: &[u8]) -> bool {
@@ -61,7 +61,7 @@ fn parsed(word: &[u8]) -> u32 {
     digits(word, 0, false)
 }
 
-// The address that an argument writes.
+// The number that an argument writes.
 pub fn of(i: usize) -> u32 {
     let mut word = io::buffer();
     let n = os::arg(i, &mut word);
