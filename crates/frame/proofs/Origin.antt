@@ -1,6 +1,6 @@
 -- Which record made a line that is given, and that it has an address of 19 bits. Assumes nothing.
 use mathlib.Core.Path.{_≡_, refl, sym, ap, _∙_, subst}
-use mathlib.Core.Bool.{Bool, true, false, cond, _||_}
+use mathlib.Core.Bool.{Bool, true, false, cond}
 use mathlib.Core.List.{List}
 use mathlib.Core.Logic.{_⊎_, inl, inr, ⊎-elim}
 use Prim.Native.Nat.{ℕ, zero, suc, _<_}
@@ -22,7 +22,7 @@ use Rattle.settings.specs.Settings.{advanced, off}
 use Rattle.settings.specs.declared.Settings.{Settings}
 use Rattle.vram.specs.Memory.{goodLength}
 use Rattle.vram.proofs.Blank.{blank, blank-good}
-use Rattle.frame.specs.Frame.{startOf, startAnswer, soundFrame, fetched, shown, nextFrame, lineAnswer, lineFrame, linesOn, lineAt, originFetched, originOf, OriginGiven, OriginTold, OriginAddress}
+use Rattle.frame.specs.Frame.{startOf, startAnswer, soundFrame, fetched, shown, nextFrame, lineAnswer, lineFrame, linesOn, lineAt, readsNone, originFetched, originOf, OriginGiven, OriginTold, OriginAddress}
 use Rattle.frame.proofs.Cases.{fetched-repeat, fetched-end, fetched-record, shown-on, shown-off, next-on, next-off, line-given}
 use Rattle.frame.proofs.Sound.{frame-fits, sound-start}
 use Rattle.frame.specs.declared.Frame.{Frame}
@@ -75,16 +75,13 @@ origin-told f mem s e =
     }
 
 -- Addresses. A frame that is switched on stands before its first record, or has told one's address
-abbrev keeps : Reader → Bool
-keeps r = ltb 0 (r .repeat) || r .ended
-
 abbrev Addressed : Frame → Type 0
-Addressed f = (f .on ≡ true) × ((keeps (f .reader) ≡ false) ⊎ (f .reader .settings .origin < 524288))
+Addressed f = (f .on ≡ true) × ((readsNone (f .reader) ≡ false) ⊎ (f .reader .settings .origin < 524288))
 
 module _ (mem : List ℕ) where
   fetched-address : (f : Frame) (s : Settings) → lineAnswer f mem ≡ done s → Addressed f → originFetched (f .reader) < 524288
   fetched-address f s e a =
-      by-cond (λ (n : ℕ). n < 524288) (keeps (f .reader)) _ _
+      by-cond (λ (n : ℕ). n < 524288) (readsNone (f .reader)) _ _
       (λ t. ⊎-elim (λ n. true-false (sym t ∙ n)) (λ h. h) (a .1))
       (λ t. frame-fits f (given f mem s e .sound) .reader .position)
 
@@ -114,12 +111,12 @@ module _ (mem : List ℕ) where
   lines-address (suc k) f s a e = lines-address k (lineFrame f mem) s (next-addressed f a (lineAnswer f mem) refl) e
 
 -- a frame starts before its first record
-starts-before : (b : Board) (f : Frame) → startAnswer b ≡ done f → keeps (f .reader) ≡ false
+starts-before : (b : Board) (f : Frame) → startAnswer b ≡ done f → readsNone (f .reader) ≡ false
 unfolding startAnswer
 starts-before b f e =
     let told : done (startOf (b .ports .xdladr) (b .ports .video)) ≡ done f = passed (soundBoard b) 15 _ f e .1 in
     let is : startOf (b .ports .xdladr) (b .ports .video) ≡ f = cc in
-    subst (λ (g : Frame). keeps (g .reader) ≡ false) is refl
+    subst (λ (g : Frame). readsNone (g .reader) ≡ false) is refl
 
 pub origin-address : OriginAddress
 origin-address b f mem k s start on e = lines-address mem k f s (on, inl (starts-before b f start)) e

@@ -88,10 +88,14 @@ linesOn mem f (suc k) = linesOn mem (lineFrame f mem) k
 abbrev pub lineAt : List ℕ → Frame → ℕ → Told Settings
 lineAt mem f k = lineAnswer (linesOn mem f k) mem
 
--- A1: the record "that was last read for it". A repeat and a line below the end have the one before, which the reader carries; a line that reads one has
--- that one, which begins at the list position
+-- a repeat and a line below the end read no record
+abbrev pub readsNone : Reader → Bool
+readsNone r = ltb 0 (r .repeat) || r .ended
+
+-- A1: the record "that was last read for it". These lines have the one before, which the reader carries; a line that reads one has that one, which begins
+-- at the list position
 abbrev pub originFetched : Reader → ℕ
-originFetched r = cond (ltb 0 (r .repeat) || r .ended) (r .settings .origin) (r .position)
+originFetched r = cond (readsNone r) (r .settings .origin) (r .position)
 
 -- "and 524,288 where no record has been read in the frame": so where it is not switched on
 abbrev pub originOf : Frame → ℕ
