@@ -31,7 +31,7 @@ use Rattle.frame.specs.declared.Frame.{Frame}
 module _ (mem : List ℕ) (r : Reader) where
   by-reader : (x : Bool) → ltb 0 (r .repeat) ≡ x → (y : Bool) → r .ended ≡ y → originIn (fetched mem r) ≡ originFetched r
   unfolding off
-  by-reader true p y q = simp p (ap originIn (fetched-repeat mem r (ltb-true 0 (r .repeat) p)))
+  by-reader true p y q = simp (p, q) (ap originIn (fetched-repeat mem r (ltb-true 0 (r .repeat) p)))
   by-reader false p true q = simp (p, q) (ap originIn (fetched-end mem r (ltb-false 0 (r .repeat) p) q))
   by-reader false p false q = simp (p, q) (ap originIn (fetched-record mem r (ltb-false 0 (r .repeat) p) q) ∙ record-origin mem r)
 
