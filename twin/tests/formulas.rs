@@ -8,7 +8,7 @@ mod common;
 use common::*;
 use twin::card::Card;
 use twin::random::Random;
-use twin::twin::{meaning, xdl, Board, Frame, Refusal, Twin};
+use twin::twin::{meaning, xdl, Board, Frame, Twin};
 
 /// One tick on the words of a sound board; its accesses.
 fn plain_tick(board: &mut [u32], mem: &mut [u8]) -> u32 {
@@ -299,16 +299,6 @@ fn where_a_plan_lies_moves_the_origin_alone() {
             let moved = (zero.origin + there) % 524_288;
             assert_eq!(line.origin, moved, "seed {seed}, line {number}");
         }
-    }
-}
-
-#[test]
-fn a_plan_means_nothing_where_it_cannot_be_installed() {
-    assert!(meaning(&full(), 524_287).is_ok());
-    for address in [524_288, u32::MAX] {
-        let refused = Err(Refusal::Address.into());
-        assert_eq!(meaning(&full(), address), refused);
-        assert_eq!(meaning(&[], address), refused);
     }
 }
 

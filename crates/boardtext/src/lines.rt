@@ -1,26 +1,22 @@
 // The lines of a frame as text, for the programs that show them: those that are all alike as one, or as many as show each band.
 use super::frames;
+use super::same;
 use board::Board;
 use frame::Frame;
 use frame::FrameStart;
 use frame::LineReport;
 use record::Reader;
-use settings::Look;
-use settings::Map;
-use settings::Overlay;
 use settings::Settings;
 
-// Stands for the address of a plan's list where the list is no plan's.
-const NO_PLAN: u32 = 524288;
-
-// What is printed so far: up to the frame's line, but for the lines since `from`, which are all alike; where the plan's list is.
+// What is printed so far: up to the frame's line, but for the lines since `from`, which are all alike. `list` is where the plan's
+// first record is, or NO_RECORD where the list is no plan's.
 struct Run {
     frame: Frame,
     from: u16,
     list: u32,
 }
 
-// What is printed so far, and the line before; where the plan's list is.
+// What is printed so far, and the line before; `list` as above.
 struct Sample {
     frame: Frame,
     before: Settings,
@@ -48,72 +44,11 @@ fn item_of(mem: &[u8], list: u32, origin: u32) -> u16 {
 // A line or lines that are all alike, with the item that made them.
 fn tell(mem: &[u8], list: u32, from: u16, to: u16, s: Settings) {
     frames::lines(from, to, s);
-    if list < NO_PLAN {
+    if list < Settings::NO_RECORD {
         print::text(b"; item ");
         print::number(item_of(mem, list, s.origin) as u64);
     }
     print::text(b"\n");
-}
-
-fn same_overlay(a: Overlay, b: Overlay) -> bool {
-    (a.mode == b.mode)
-        & (a.address == b.address)
-        & (a.step == b.step)
-        & (a.hscroll == b.hscroll)
-        & (a.vscroll == b.vscroll)
-        & (a.font == b.font)
-        & (a.counter == b.counter)
-}
-
-fn same_map(a: Map, b: Map) -> bool {
-    (a.on == b.on)
-        & (a.address == b.address)
-        & (a.step == b.step)
-        & (a.hscroll == b.hscroll)
-        & (a.vscroll == b.vscroll)
-        & (a.width == b.width)
-        & (a.height == b.height)
-        & (a.counter == b.counter)
-}
-
-fn same_look(a: Look, b: Look) -> bool {
-    (a.width == b.width)
-        & (a.palette == b.palette)
-        & (a.playfield == b.playfield)
-        & (a.priority == b.priority)
-}
-
-fn same(a: Settings, b: Settings) -> bool {
-    same_overlay(a.overlay, b.overlay)
-        & same_map(a.map, b.map)
-        & same_look(a.look, b.look)
-        & (a.origin == b.origin)
-}
-
-fn same_frame(a: Frame, b: Frame) -> bool {
-    same(a.reader.settings, b.reader.settings)
-        & (a.reader.position == b.reader.position)
-        & (a.reader.repeat == b.reader.repeat)
-        & (a.line == b.line)
-        & (a.reader.ended == b.reader.ended)
-        & (a.on == b.on)
-}
-
-// The settings without what moves from line to line.
-fn still(mut s: Settings) -> Settings {
-    s.overlay.address = 0;
-    s.overlay.counter = 0;
-    s.map.address = 0;
-    s.map.counter = 0;
-    s
-}
-
-// Whether two lines have the same settings; or, where they may move, the same but for what moves.
-fn alike(a: Settings, b: Settings, moving: bool) -> bool {
-    if moving {
-        return same(still(a), still(b));
-    }
-    same(a, b)
 }
 
 // Whether the frame's next line is like this one.
@@ -122,7 +57,7 @@ fn next_alike(frame: Frame, mem: &[u8], s: Settings, moving: bool) -> bool {
     let report = next.report;
     match report {
         LineReport::Refused(_) => false,
-        LineReport::Line(t) => alike(s, t, moving),
+        LineReport::Line(t) => same::alike(s, t, moving),
     }
 }
 
@@ -172,7 +107,7 @@ fn joined(frame: Frame, mem: &[u8], list: u32, count: u16) -> Frame {
 
 // The same, and the frame printed.
 pub fn runs(frame: Frame, mem: &[u8], count: u16) {
-    frames::state(joined(frame, mem, NO_PLAN, count));
+    frames::state(joined(frame, mem, Settings::NO_RECORD, count));
 }
 
 // One line more; it is printed where a band begins or ends, and each ninth line, so that every counter is met.
@@ -188,7 +123,7 @@ fn sample_line(sample: Sample, mem: &[u8]) -> Sample {
             sample
         }
         LineReport::Line(s) => {
-            let first = !alike(sample.before, s, true);
+            let first = !same::alike(sample.before, s, true);
             let last = !next_alike(after, mem, s, true);
             if first | last | (frame.line % 9 == 0) {
                 tell(mem, list, frame.line, frame.line, s);
@@ -216,7 +151,7 @@ fn samples(frame: Frame, mem: &[u8], list: u32) {
 
 // Whether a refusal hands the frame back as it was.
 fn handed_back(frame: Frame, after: Frame) {
-    if same_frame(frame, after) {
+    if same::frame(frame, after) {
         print::text(b"the frame as it was, ");
         return;
     }
@@ -234,7 +169,7 @@ pub fn ask(frame: Frame, mem: &[u8]) {
             print::refused(why, 0);
         }
         LineReport::Line(s) => {
-            tell(mem, NO_PLAN, frame.line, frame.line, s);
+            tell(mem, Settings::NO_RECORD, frame.line, frame.line, s);
             frames::holds(after);
         }
     }

@@ -22,7 +22,7 @@ use Rattle.settings.specs.Settings.{advanced, off}
 use Rattle.settings.specs.declared.Settings.{Settings}
 use Rattle.vram.specs.Memory.{goodLength}
 use Rattle.vram.proofs.Blank.{blank, blank-good}
-use Rattle.frame.specs.Frame.{startOf, startAnswer, soundFrame, fetched, shown, nextFrame, lineAnswer, lineFrame, linesOn, lineAt, readsNone, originFetched, originOf, OriginGiven, OriginTold, OriginAddress}
+use Rattle.frame.specs.Frame.{startOf, startAnswer, soundFrame, fetched, shown, nextFrame, lineAnswer, lineFrame, linesOn, lineAt, readsNone, originFetched, originOf, OriginTold, OriginAddress}
 use Rattle.frame.proofs.Cases.{fetched-repeat, fetched-end, fetched-record, shown-on, shown-off, next-on, next-off, line-given}
 use Rattle.frame.proofs.Sound.{frame-fits, sound-start}
 use Rattle.frame.specs.declared.Frame.{Frame}

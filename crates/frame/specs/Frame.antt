@@ -97,7 +97,7 @@ readsNone r = ltb 0 (r .repeat) || r .ended
 abbrev pub originFetched : Reader → ℕ
 originFetched r = cond (readsNone r) (r .settings .origin) (r .position)
 
--- "and 524,288 where no record has been read in the frame": so where it is not switched on
+-- "and 524,288 where no record has been read in the frame": one that is not switched on reads none
 abbrev pub originOf : Frame → ℕ
 originOf f = cond (f .on) (originFetched (f .reader)) noRecord
 

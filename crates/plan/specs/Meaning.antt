@@ -15,7 +15,6 @@ use Rattle.item.specs.declared.Full.{Full}
 use Rattle.item.specs.declared.Running.{Running}
 use Rattle.item.specs.declared.Item.{Item}
 use Rattle.item.specs.declared.Item.the-variants.{Full as full, Running as running}
-use Rattle.plan.specs.Plan.{parse, itemsOf}
 use Rattle.plan.specs.Xdl.{recordSize}
 
 -- "palettes 0..15 (overlay + 4·playfield)"
@@ -94,10 +93,6 @@ meaningFrom (it ∷ more) l k =
 -- the settings of line k, where the list is installed at an address
 abbrev pub meaning : List Item → ℕ → ℕ → Settings
 meaning items address k = meaningFrom items (record { first = beginning; below = 0; next = address }) k
-
--- of a plan's bytes
-abbrev pub planMeans : List ℕ → ℕ → ℕ → Settings
-planMeans plan address k = meaning (itemsOf (parse plan)) address k
 
 -- "Nothing else in a line's settings moves": the install address decides the record and nothing else
 abbrev pub AddressApart : Type 0

@@ -22,7 +22,7 @@ use Rattle.board.specs.Board.{newBoard, soundBoard}
 use Rattle.item.specs.Item.{fullAt, runningAt, soundFull, soundRunning, fitted, itemAt}
 use Rattle.plan.specs.Plan.{good, parseFrom, rest, parse, itemsOf}
 use Rattle.plan.specs.Xdl.{fullRecord, runningRecord, bytesOf}
-use Rattle.plan.specs.Meaning.{fullSettings, runningSettings, meaningFrom, planMeans}
+use Rattle.plan.specs.Meaning.{fullSettings, runningSettings, meaningFrom, meaning}
 use Rattle.shows.specs.Shows.{frameStarted, lineOf, Desk, Valid, listOf}
 use Rattle.shows.proofs.Theorem.{demand-3}
 
@@ -65,7 +65,7 @@ module _
   valid : Valid plan (replicate n 0) (itemsOf (parse plan))
   valid = record { bytes = bytes-below plan bytes; rules = taken; room = omega (arith, length-replicate {A = ℕ} n 0) }
 
-  line-is : (k : ℕ) → k < 240 → line plan n k ≡ done (planMeans plan 524286 k)
+  line-is : (k : ℕ) → k < 240 → line plan n k ≡ done (meaning (itemsOf (parse plan)) 524286 k)
   line-is = demand-3 plan (replicate n 0) blank (itemsOf (parse plan)) 524286 1 newBoard valid desk .lines
 
 -- "17 00 01 00, 01, seventeen bytes 00, 08 01 01 01 FF"

@@ -273,7 +273,9 @@ pub fn install<B>(video: &mut Video<B>, list: &[u8], address: u32) -> Result<(),
 where
     B: DerefMut<Target = [u8]>,
 {
-    check_address(address)?;
+    if address >= ADDRESSES {
+        return Err(Refusal::Address);
+    }
     if list.len() > MAX_INSTALL {
         return Err(Refusal::Room);
     }
@@ -283,18 +285,9 @@ where
     Ok(())
 }
 
-fn check_address(address: u32) -> Result<(), Refusal> {
-    if address < ADDRESSES {
-        Ok(())
-    } else {
-        Err(Refusal::Address)
-    }
-}
-
-/// What each of the 240 lines has when the plan is installed at an address, from the meaning of plans alone: no XDL is
-/// made or read.
+/// What each of the 240 lines has when the plan is installed at an address of 19 bits, from the meaning of plans alone:
+/// no XDL is made or read.
 pub fn meaning(plan: &[u8], address: u32) -> Result<Vec<Settings>, Refused> {
-    check_address(address)?;
     let mut next_record = address;
     let mut lines = Vec::with_capacity(usize::from(LINES));
     let mut band = None;
