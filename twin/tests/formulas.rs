@@ -183,20 +183,46 @@ fn a_split_run_is_the_whole_run() {
     }
 }
 
+/// A frame over a random list, switched on; where the list lies.
+fn any_list(r: &mut Random) -> (Rig<Twin>, u32) {
+    let length = make::length(r);
+    let mut rig = Rig::new();
+    rig.mem = make::memory(r, length);
+    let list = if r.chance(7, 8) {
+        make::xdl(r, &mut rig.mem)
+    } else {
+        make::address(r)
+    };
+    rig.show(list);
+    (rig, list)
+}
+
+fn byte_at(mem: &[u8], address: u32) -> u32 {
+    mem[address as usize % 524_288 % mem.len()].into()
+}
+
+/// The two control bytes of a record.
+fn control_at(mem: &[u8], record: u32) -> u32 {
+    byte_at(mem, record) + 256 * byte_at(mem, record + 1)
+}
+
 /// The record of each line, from a list that is switched on: each record tells its own size and lines, and the next one
 /// lies behind it.
 fn plain_origins(mem: &[u8], list: u32) -> Vec<u32> {
     const SIZES: [u32; 7] = [1, 5, 2, 1, 5, 4, 2];
-    let byte = |address: u32| mem[address as usize % 524_288 % mem.len()];
     let mut origins = Vec::new();
     let mut record = list;
     while origins.len() < 240 {
-        let control = u32::from(byte(record)) + 256 * u32::from(byte(record + 1));
+        let control = control_at(mem, record);
         // RPTL is the lowest bit of the seven groups, and its byte is the first.
         let groups = control / 32;
-        let repeats = if groups % 2 == 1 { byte(record + 2) } else { 0 };
+        let repeats = if groups % 2 == 1 {
+            byte_at(mem, record + 2)
+        } else {
+            0
+        };
         let ends = control >= 32_768;
-        let lines = if ends { 240 } else { 1 + usize::from(repeats) };
+        let lines = if ends { 240 } else { 1 + repeats as usize };
         origins.extend(vec![record; lines]);
         let data = (0..7).filter(|group| groups >> group & 1 == 1);
         let size = 2 + data.map(|group| SIZES[group]).sum::<u32>();
@@ -210,16 +236,7 @@ fn plain_origins(mem: &[u8], list: u32) -> Vec<u32> {
 fn a_walk_over_the_records_finds_the_one_of_each_line() {
     let (mut records, mut wrapped, mut ended) = (0, 0, 0);
     for seed in 0..3_000 {
-        let mut r = Random::new(seed);
-        let length = make::length(&mut r);
-        let mut rig = Rig::<Twin>::new();
-        rig.mem = make::memory(&mut r, length);
-        let list = if r.chance(7, 8) {
-            make::xdl(&mut r, &mut rig.mem)
-        } else {
-            make::address(&mut r)
-        };
-        rig.show(list);
+        let (mut rig, list) = any_list(&mut Random::new(seed));
         let origins = rig.column(240, at::ORIGIN);
         assert_eq!(origins, plain_origins(&rig.mem, list), "seed {seed}");
         let mut known = origins;
@@ -230,6 +247,46 @@ fn a_walk_over_the_records_finds_the_one_of_each_line() {
     }
     println!("{records} records, {wrapped} lists over the top, {ended} with an end");
     assert!(records > 20_000 && wrapped > 200 && ended > 1_000);
+}
+
+#[test]
+fn a_reset_puts_a_counter_to_the_scroll_of_its_line() {
+    let (mut scrolled, mut folded, mut kept) = (0, 0, 0);
+    for seed in 0..3_000 {
+        let (mut rig, _) = any_list(&mut Random::new(seed));
+        for line in 0..240 {
+            let before = rig.frame;
+            let told = rig.line();
+            let reads = before[at::REPEAT] == 0 && before[at::ENDED] == 0;
+            let control = if reads {
+                control_at(&rig.mem, before[at::POSITION])
+            } else {
+                0
+            };
+            // TMON alone, or OVADR; MAPADR or MAPPAR. Without one the counter is what the line above left.
+            let resets_text = control % 8 == 1 || control / 64 % 2 == 1;
+            let resets_field = control / 512 % 4 != 0;
+            let text = if resets_text {
+                told[at::VSCROLL]
+            } else {
+                before[at::TEXT]
+            };
+            let field = if resets_field {
+                told[at::MAP_VSCROLL] % told[at::FIELD_HEIGHT]
+            } else {
+                before[at::FIELD]
+            };
+            let counters = [told[at::TEXT], told[at::FIELD]];
+            assert_eq!(counters, [text, field], "seed {seed}, line {line}");
+            scrolled += u32::from(resets_text && text != 0);
+            folded += u32::from(resets_field && field != told[at::MAP_VSCROLL]);
+            kept += u32::from(!resets_text && told[at::VSCROLL] != before[at::VSCROLL]);
+        }
+    }
+    println!(
+        "{scrolled} scrolled starts, {folded} above the height, {kept} scrolls without a start"
+    );
+    assert!(scrolled > 20_000 && folded > 5_000 && kept > 5_000);
 }
 
 #[test]

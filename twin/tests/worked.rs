@@ -1480,9 +1480,10 @@ worked! {
         let mut rig = Rig::<C>::with_xdl(&[0x28, 4, 2, 0xFF, 0xFF, 3, 0xFF, 0, 2, 1, 0, 0, 0, 0]);
         let words = [at::MAP_HSCROLL, at::MAP_VSCROLL, at::FIELD_WIDTH, at::FIELD_HEIGHT, at::FIELD];
         let lines = rig.some(4, &words);
-        assert_eq!(lines[0], [31, 31, 8, 32, 0]);
-        assert_eq!(lines[2], [31, 31, 8, 32, 2]);
-        assert_eq!(lines[3], [31, 31, 8, 32, 0]);
+        // It starts on a field's last line, and again with the fourth.
+        assert_eq!(lines[0], [31, 31, 8, 32, 31]);
+        assert_eq!(lines[2], [31, 31, 8, 32, 1]);
+        assert_eq!(lines[3], [31, 31, 8, 32, 31]);
         for (byte, width) in [(6, 8), (7, 8), (8, 9), (31, 32), (0xE8, 9)] {
             let mut rig = Rig::<C>::with_xdl(&[0, 4, 0, 0, byte, 0]);
             assert_eq!(rig.line()[at::FIELD_WIDTH], width);
@@ -1574,7 +1575,7 @@ worked! {
             assert_eq!(
                 rig.line(),
                 [
-                    SR, 0x40302, 0x605, 7, 0, 9, 0, 0, 0x40B0A, 0xE0D, 15, 16, 18, 19, 0, 1, 1, 0, 20,
+                    SR, 0x40302, 0x605, 7, 0, 9, 0, 0, 0x40B0A, 0xE0D, 15, 16, 18, 19, 16, 1, 1, 0, 20,
                     origin
                 ]
             );
@@ -1741,6 +1742,169 @@ worked! {
         }
     }
 
+    // Where the counters start (document 02, A2).
+
+    fn scrolled_text_begins_with_the_last_lines_of_a_row<C>() {
+        let mut rig = Rig::<C>::with_xdl(&[0xE1, 0x80, 9, 0, 0x10, 0, 0xA0, 0, 0, 3]);
+        let lines = rig.some(240, &[at::MODE, at::TEXT, at::OVADR]);
+        assert_eq!(
+            lines[..10],
+            [
+                [TEXT, 3, 0x1000],
+                [TEXT, 4, 0x1000],
+                [TEXT, 5, 0x1000],
+                [TEXT, 6, 0x1000],
+                [TEXT, 7, 0x1000],
+                [TEXT, 0, 0x10A0],
+                [TEXT, 1, 0x10A0],
+                [TEXT, 2, 0x10A0],
+                [TEXT, 3, 0x10A0],
+                [TEXT, 4, 0x10A0]
+            ]
+        );
+        assert!(lines[10..].iter().all(|line| line == &[OFF, 5, 0x10A0]));
+    }
+
+    fn the_row_starts_at_the_scroll_that_the_record_leaves<C>() {
+        let words = [at::MODE, at::TEXT, at::VSCROLL];
+        // Its own, though it is behind the address, and by its three bits.
+        let mut rig = Rig::<C>::with_xdl(&[0x81, 0, 0, 3, 0xC1, 0x80, 0, 0, 0, 0, 0, 0, 0xFE]);
+        assert_eq!(rig.some(3, &words), [[TEXT, 3, 3], [TEXT, 6, 6], [OFF, 7, 6]]);
+        // The older one, for TMON and for OVADR.
+        let mut rig = Rig::<C>::with_xdl(&[0x84, 0, 0, 3, 1, 0x80]);
+        assert_eq!(rig.some(3, &words), [[OFF, 0, 3], [TEXT, 3, 3], [OFF, 4, 3]]);
+        let mut rig = Rig::<C>::with_xdl(&[0x81, 0, 0, 3, 0x40, 0x80, 0, 0, 0, 0, 0]);
+        assert_eq!(rig.some(3, &words), [[TEXT, 3, 3], [TEXT, 3, 3], [OFF, 4, 3]]);
+    }
+
+    fn a_scroll_without_a_reset_moves_no_counter<C>() {
+        let words = [at::MODE, at::TEXT, at::VSCROLL];
+        let mut rig = Rig::<C>::with_xdl(&[0x81, 0, 0, 3, 0x80, 0x80, 0, 5]);
+        assert_eq!(rig.some(3, &words), [[TEXT, 3, 3], [TEXT, 4, 5], [OFF, 5, 5]]);
+        // Text together with off is no reset, and neither is graphics.
+        for (first, mode) in [(0x85, OFF), (0x82, SR), (0x84, OFF)] {
+            let mut rig = Rig::<C>::with_xdl(&[0x81, 0, 0, 3, first, 0, 0, 5]);
+            assert_eq!(rig.some(2, &words), [[TEXT, 3, 3], [mode, 4, 5]]);
+        }
+        // The counter that a frame begins with is 0.
+        let mut rig = Rig::<C>::with_xdl(&[0x80, 0x80, 0, 3]);
+        assert_eq!(rig.some(2, &words), [[OFF, 0, 3], [OFF, 0, 3]]);
+    }
+
+    fn addresses_of_pixel_modes_do_not_scroll<C>() {
+        let mut rig = Rig::<C>::with_xdl(&[0xE2, 0x80, 1, 0, 0x10, 0, 0x40, 1, 0, 5]);
+        assert_eq!(
+            rig.some(3, &[at::MODE, at::OVADR, at::TEXT]),
+            [[SR, 0x1000, 5], [SR, 0x1140, 5], [OFF, 0x1280, 5]]
+        );
+    }
+
+    fn the_map_begins_with_the_last_lines_of_a_field<C>() {
+        // 10 mod 4 is 2.
+        let mut rig = Rig::<C>::with_xdl(&[0x28, 0x86, 6, 0, 0x20, 0, 5, 0, 0, 10, 7, 3]);
+        let lines = rig.some(240, &[at::MAP, at::MAPADR, at::FIELD]);
+        assert_eq!(
+            lines[..7],
+            [
+                [1, 0x2000, 2],
+                [1, 0x2000, 3],
+                [1, 0x2005, 0],
+                [1, 0x2005, 1],
+                [1, 0x2005, 2],
+                [1, 0x2005, 3],
+                [1, 0x200A, 0]
+            ]
+        );
+        assert!(lines[7..].iter().all(|line| line == &[0, 0x200A, 1]));
+    }
+
+    fn the_field_starts_by_the_parameters_that_the_record_leaves<C>() {
+        let mut rig = Rig::<C>::with_xdl(&[
+            8, 4, 0, 10, 7, 3, // 10 mod 4
+            0, 2, 0, 0, 0, 0, 0, // MAPADR alone: the same again
+            0, 6, 0, 0, 0, 0, 0, 0, 10, 7, 6, // with its own height: 10 mod 7
+            0, 4, 0, 14, 7, 6, // MAPPAR alone: 14 mod 7
+            0, 0, // neither
+            0x10, 0, // nor
+            8, 0x80,
+        ]);
+        assert_eq!(
+            rig.some(8, &[at::MAP, at::FIELD]),
+            [[1, 2], [1, 2], [1, 3], [1, 0], [1, 1], [0, 2], [1, 2], [0, 3]]
+        );
+    }
+
+    fn every_map_vscroll_at_every_height<C>() {
+        for height in 1..=32 {
+            for vscroll in 0..32 {
+                let mut rig = Rig::<C>::with_xdl(&[8, 4, 0, vscroll, 7, height - 1]);
+                let [first, second] = [vscroll % height, (vscroll + 1) % height].map(u32::from);
+                assert_eq!(rig.column(2, at::FIELD), [first, second], "{vscroll}, {height}");
+            }
+        }
+    }
+
+    fn running_on_keeps_the_start_of_the_full_band<C>() {
+        let band = Full { lines: 6, mode: 1, ovadr: 0x1000, ovstep: 0xA0, vscroll: 3, ..Full::default() };
+        let more = Running { lines: 2, vscroll: 6, ..Running::default() };
+        let lines = lines_of::<C>(&joined(&[band.bytes(), more.bytes()]));
+        let shown = |line: &[u32; SETTINGS_WORDS]| [line[at::TEXT], line[at::OVADR], line[at::VSCROLL]];
+        let told: Vec<_> = lines.iter().map(shown).collect();
+        assert_eq!(
+            told[..8],
+            [
+                [3, 0x1000, 3],
+                [4, 0x1000, 3],
+                [5, 0x1000, 3],
+                [6, 0x1000, 3],
+                [7, 0x1000, 3],
+                [0, 0x10A0, 3],
+                [1, 0x10A0, 6],
+                [2, 0x10A0, 6]
+            ]
+        );
+        assert_eq!(told[8..], [[3, 0x10A0, 6]; 232]);
+    }
+
+    fn the_next_full_band_has_a_start_of_its_own<C>() {
+        let band = |vscroll, map_vscroll| {
+            Full { lines: 2, mode: 1, vscroll, map: 1, map_vscroll, field_height: 4, ..Full::default() }.bytes()
+        };
+        let lines = lines_of::<C>(&joined(&[band(7, 6), band(0, 31), band(5, 8)]));
+        let told: Vec<_> = lines[..7].iter().map(|line| [line[at::TEXT], line[at::FIELD]]).collect();
+        assert_eq!(told, [[7, 2], [0, 3], [0, 3], [1, 0], [5, 0], [6, 1], [7, 2]]);
+    }
+
+    fn the_map_of_a_scrolled_plan<C>() {
+        let band = Full {
+            lines: 3, map: 1, mapadr: 0x7FFFE, mapstep: 3, map_vscroll: 10, field_height: 4, ..Full::default()
+        };
+        let more = Running { lines: 4, ..Running::default() };
+        let lines = lines_of::<C>(&joined(&[band.bytes(), more.bytes()]));
+        let told: Vec<_> = lines.iter().map(|line| [line[at::MAPADR], line[at::FIELD]]).collect();
+        assert_eq!(
+            told[..7],
+            [[0x7FFFE, 2], [0x7FFFE, 3], [1, 0], [1, 1], [1, 2], [1, 3], [4, 0]]
+        );
+        assert_eq!(told[7..], [[4, 1]; 233]);
+    }
+
+    fn counters_that_do_not_run_hold_their_start<C>() {
+        for (mode, last) in [(0, 0x1000), (2, 0x1640), (3, 0x1640), (4, 0x1640)] {
+            let band = Full {
+                lines: 3, mode, ovadr: 0x1000, ovstep: 0x140, vscroll: 3, mapadr: 0x2000, mapstep: 5,
+                map_vscroll: 10, field_height: 4, ..Full::default()
+            };
+            let more = Running { lines: 2, vscroll: 6, ..Running::default() };
+            let lines = lines_of::<C>(&joined(&[band.bytes(), more.bytes()]));
+            for (number, line) in lines.iter().enumerate() {
+                let told = [line[at::TEXT], line[at::FIELD], line[at::MAPADR]];
+                assert_eq!(told, [3, 2, 0x2000], "mode {mode}, line {number}");
+            }
+            assert_eq!([lines[0][at::OVADR], lines[239][at::OVADR]], [0x1000, last], "mode {mode}");
+        }
+    }
+
     // Plans.
 
     fn below_the_plan<C>() {
@@ -1783,15 +1947,15 @@ worked! {
         let lines = lines_of::<C>(&joined(&[band.bytes(), more.bytes()]));
         assert_eq!(
             lines[0],
-            [SR, 0x40000, 1, 1, 2, 3, 0, 1, 0x50000, 2, 30, 29, 17, 1, 0, 0, 2, 1, 0x12, 0x1234]
+            [SR, 0x40000, 1, 1, 2, 3, 2, 1, 0x50000, 2, 30, 29, 17, 1, 0, 0, 2, 1, 0x12, 0x1234]
         );
         assert_eq!(
             lines[1],
-            [SR, 0x40001, 1, 4, 5, 6, 0, 1, 0x50002, 2, 30, 29, 17, 1, 0, 2, 1, 2, 0x34, 0x124A]
+            [SR, 0x40001, 1, 4, 5, 6, 2, 1, 0x50002, 2, 30, 29, 17, 1, 0, 2, 1, 2, 0x34, 0x124A]
         );
         assert_eq!(
             lines[2],
-            [OFF, 0x40002, 1, 4, 5, 6, 0, 0, 0x50004, 2, 30, 29, 17, 1, 0, 2, 1, 2, 0x34, 0x124A]
+            [OFF, 0x40002, 1, 4, 5, 6, 2, 0, 0x50004, 2, 30, 29, 17, 1, 0, 2, 1, 2, 0x34, 0x124A]
         );
     }
 

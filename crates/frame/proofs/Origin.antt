@@ -15,7 +15,7 @@ use Rattle.board.specs.Ports.{portsWritten}
 use Rattle.board.specs.Board.{soundBoard, newBoard, writeAnswer, writeBoard, blitterWritten}
 use Rattle.board.specs.declared.Board.{Board}
 use Rattle.record.specs.declared.Reader.{Reader}
-use Rattle.record.proofs.Origin.{originIn, record-origin}
+use Rattle.record.proofs.Kept.{originIn, record-origin}
 use Rattle.refusal.specs.Sheet.{Told, done, refused, kept}
 use Rattle.refusal.proofs.Sheet.{passed}
 use Rattle.settings.specs.Settings.{advanced, off}

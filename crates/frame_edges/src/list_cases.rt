@@ -173,6 +173,50 @@ fn rows() {
     );
 }
 
+// Where a reset puts the text counter: to the vscroll that the record ends with.
+fn row_starts() {
+    case(
+        b"Text from the fourth line of its row on:",
+        b"\xE1\x80\x09\x00\x10\x00\xA0\x00\x00\x03",
+    );
+    case(
+        b"TMON alone, the vscroll held:",
+        b"\x84\x00\x00\x03\x01\x80",
+    );
+    case(
+        b"OVADR while off, the vscroll held:",
+        b"\x84\x00\x00\x03\x40\x80\x00\x10\x00\xA0\x00",
+    );
+    case(
+        b"OVADR in SR, with a vscroll of its own:",
+        b"\x84\x00\x00\x03\xE2\x80\x01\x00\x10\x00\x40\x01\x02\x06",
+    );
+    case(
+        b"OVSCRL without a reset:",
+        b"\x81\x00\x00\x03\x80\x80\x00\x05",
+    );
+}
+
+// Where a reset puts the field counter: to the map's vscroll modulo the field height.
+fn field_starts() {
+    case(
+        b"Fields of 4 lines, a map scrolled by 10:",
+        b"\x28\x86\x05\x00\x00\x00\x05\x00\x00\x0A\x07\x03",
+    );
+    case(
+        b"MAPADR alone, vscroll and height held:",
+        b"\x28\x04\x02\x00\x0A\x07\x03\x20\x82\x01\x01\x00\x01\x05\x00",
+    );
+    case(
+        b"MAPPAR with the map off:",
+        b"\x30\x04\x01\x00\x1F\x07\x06\x20\x84\x01\x00\x04\x07\x03",
+    );
+    case(
+        b"OVADR does not restart the field:",
+        b"\x28\x04\x01\x00\x05\x07\x07\xC0\x80\x00\x10\x00\xA0\x00\x00\x02",
+    );
+}
+
 // The map and the field counter.
 fn maps() {
     case(
@@ -235,6 +279,8 @@ pub fn all() {
     whole();
     modes();
     rows();
+    row_starts();
     maps();
+    field_starts();
     data();
 }

@@ -1,4 +1,4 @@
--- The definitions tried on small plans: the paper's example, and the meaning of bands that run on and end. Assumes nothing.
+-- The definitions tried on small plans: the paper's example, and the meaning of bands that run on, are scrolled, and end. Assumes nothing.
 use mathlib.Core.Path.{_≡_, refl, sym, ap, _∙_}
 use mathlib.Core.List.{List, [], _∷_}
 use Prim.Native.Nat.{ℕ}
@@ -38,9 +38,9 @@ room :
 unfolding compileAnswer compileOutput xdlBytes parse rest parseFrom itemAt fitted fullAt runningAt soundFull soundRunning fullRecord runningRecord
 room = (refl, refl, refl, refl)
 
--- a full band and a running-on item with the fields that matter here
-abbrev band : ℕ → ℕ → ℕ → ℕ → ℕ → ℕ → ℕ → Item
-band lines mode address step map mapstep height =
+-- a full band and a running-on item with the fields that matter here, scrolled by so many lines or not
+abbrev bandBy : ℕ → ℕ → ℕ → ℕ → ℕ → ℕ → ℕ → ℕ → ℕ → Item
+bandBy vscroll mapvscroll lines mode address step map mapstep height =
     full
     (record {
       lines = lines;
@@ -48,13 +48,13 @@ band lines mode address step map mapstep height =
       address = address;
       step = step;
       hscroll = 0;
-      vscroll = 0;
+      vscroll = vscroll;
       font = 0;
       map = map;
       mapaddress = 0;
       mapstep = mapstep;
       maphscroll = 0;
-      mapvscroll = 0;
+      mapvscroll = mapvscroll;
       fieldwidth = 8;
       fieldheight = height;
       width = 1;
@@ -62,9 +62,15 @@ band lines mode address step map mapstep height =
       priority = 255;
     })
 
+abbrev band : ℕ → ℕ → ℕ → ℕ → ℕ → ℕ → ℕ → Item
+band = bandBy 0 0
+
+abbrev onwardBy : ℕ → ℕ → ℕ → ℕ → Item
+onwardBy vscroll lines hscroll palettes =
+    running (record { lines = lines; hscroll = hscroll; vscroll = vscroll; font = 0; width = 1; palettes = palettes; priority = 255 })
+
 abbrev onward : ℕ → ℕ → ℕ → Item
-onward lines hscroll palettes =
-    running (record { lines = lines; hscroll = hscroll; vscroll = 0; font = 0; width = 1; palettes = palettes; priority = 255 })
+onward = onwardBy 0
 
 -- the example's one item, written out: it keeps the rules, so the plan is read as it
 abbrev items : List Item
@@ -123,3 +129,30 @@ text :
     ∷ []
 unfolding off overlayBelow mapBelow settingsBelow fullSettings runningSettings meaningFrom
 text = refl
+
+-- text scrolled by 3: its first row has five lines, and a running-on item's vscroll moves no counter. Beside it a map that is scrolled by 10, in fields of
+-- 4 lines: of the first field two lines are left
+scrolled-text :
+    lines (bandBy 3 10 6 1 4096 160 1 50 4 ∷ onwardBy 6 2 0 1 ∷ []) 7 (0 ∷ 1 ∷ 2 ∷ 4 ∷ 5 ∷ 6 ∷ 7 ∷ 8 ∷ 239 ∷ [])
+    ≡ (1 ∷ 4096 ∷ 3 ∷ 0 ∷ 2 ∷ 0 ∷ 1 ∷ 0 ∷ 7 ∷ [])
+    ∷ (1 ∷ 4096 ∷ 4 ∷ 0 ∷ 3 ∷ 0 ∷ 1 ∷ 0 ∷ 7 ∷ [])
+    ∷ (1 ∷ 4096 ∷ 5 ∷ 50 ∷ 0 ∷ 0 ∷ 1 ∷ 0 ∷ 7 ∷ [])
+    ∷ (1 ∷ 4096 ∷ 7 ∷ 50 ∷ 2 ∷ 0 ∷ 1 ∷ 0 ∷ 7 ∷ [])
+    ∷ (1 ∷ 4256 ∷ 0 ∷ 50 ∷ 3 ∷ 0 ∷ 1 ∷ 0 ∷ 7 ∷ [])
+    ∷ (1 ∷ 4256 ∷ 1 ∷ 100 ∷ 0 ∷ 0 ∷ 1 ∷ 0 ∷ 29 ∷ [])
+    ∷ (1 ∷ 4256 ∷ 2 ∷ 100 ∷ 1 ∷ 0 ∷ 1 ∷ 0 ∷ 29 ∷ [])
+    ∷ (0 ∷ 4256 ∷ 3 ∷ 100 ∷ 2 ∷ 0 ∷ 1 ∷ 0 ∷ 29 ∷ [])
+    ∷ (0 ∷ 4256 ∷ 3 ∷ 100 ∷ 2 ∷ 0 ∷ 1 ∷ 0 ∷ 29 ∷ [])
+    ∷ []
+unfolding off overlayBelow mapBelow settingsBelow fullSettings runningSettings meaningFrom
+scrolled-text = refl
+
+-- SR scrolled by 3, and a map scrolled by 10 that is off: both counters hold where they start, and the addresses are as ever
+starts-held :
+    lines (bandBy 3 10 2 2 5 7 0 50 4 ∷ []) 7 (0 ∷ 1 ∷ 2 ∷ [])
+    ≡ (2 ∷ 5 ∷ 3 ∷ 0 ∷ 2 ∷ 0 ∷ 1 ∷ 0 ∷ 7 ∷ [])
+    ∷ (2 ∷ 12 ∷ 3 ∷ 0 ∷ 2 ∷ 0 ∷ 1 ∷ 0 ∷ 7 ∷ [])
+    ∷ (0 ∷ 19 ∷ 3 ∷ 0 ∷ 2 ∷ 0 ∷ 1 ∷ 0 ∷ 7 ∷ [])
+    ∷ []
+unfolding off overlayBelow mapBelow settingsBelow fullSettings runningSettings meaningFrom
+starts-held = refl

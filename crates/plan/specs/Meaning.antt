@@ -1,5 +1,5 @@
--- Document 01, "Plans", "Meaning": the settings of each of the 240 lines, worked out from the items alone; document 02, A1: their record "worked out from
--- the install address and the sizes of the items".
+-- Document 01, "Plans", "Meaning", with document 02, A2: the settings of each of the 240 lines, worked out from the items alone; A1: their record "worked
+-- out from the install address and the sizes of the items".
 use mathlib.Core.Path.{_≡_}
 use mathlib.Core.Bool.{cond}
 use mathlib.Core.List.{List, [], _∷_}
@@ -21,7 +21,7 @@ use Rattle.plan.specs.Xdl.{recordSize}
 abbrev pub itemLook : ℕ → ℕ → ℕ → Look
 itemLook width palettes priority = record { width = width; palette = palettes % 4; playfield = palettes / 4; priority = priority }
 
--- the first line of a full band whose record is at an address: both counters start at 0
+-- the first line of a full band whose record is at an address; A2: where its counters start, "the full band's vscroll" and "its map vscroll mod height"
 unfoldable pub fullSettings : Full → ℕ → Settings
 fullSettings b at =
     record {
@@ -32,7 +32,7 @@ fullSettings b at =
         hscroll = b .hscroll;
         vscroll = b .vscroll;
         font = b .font;
-        counter = 0;
+        counter = b .vscroll;
       };
       map = record {
         on = eqb (b .map) 1;
@@ -42,13 +42,14 @@ fullSettings b at =
         vscroll = b .mapvscroll;
         width = b .fieldwidth;
         height = b .fieldheight;
-        counter = 0;
+        counter = b .mapvscroll % b .fieldheight;
       };
       look = itemLook (b .width) (b .palettes) (b .priority);
       origin = at;
     }
 
--- a running-on item changes "hscroll, vscroll, font, width, palettes, priority. All else runs on from above."; its record is its own
+-- a running-on item changes "hscroll, vscroll, font, width, palettes, priority. All else runs on from above.", so its vscroll moves no counter; its record
+-- is its own
 unfoldable pub runningSettings : Running → ℕ → Settings → Settings
 runningSettings b at s =
     withLook (itemLook (b .width) (b .palettes) (b .priority))

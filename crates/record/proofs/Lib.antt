@@ -1,5 +1,5 @@
 -- Laws of a record.
 pub mod Readback
 pub mod Sound
-pub mod Origin
+pub mod Kept
 mod Once

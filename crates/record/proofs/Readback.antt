@@ -120,15 +120,17 @@ module _ (mem : List ℕ) (r : Reader) (c d : ℕ) where
   abbrev fullOverlay : Overlay → Overlay
   fullOverlay o =
       let stepped = stepping (addressAt mem at 3) (stepAt mem at 6) (inMode (overlayMode c d (o .mode)) o) in
-      let moved = scrolled (byteAt mem at 8 % 8) (byteAt mem at 9 % 8) stepped in
-      overlayAt (addressAt mem at 3) 0 (inFont (byteAt mem at 10) moved)
+      let vscroll = byteAt mem at 9 % 8 in
+      let moved = scrolled (byteAt mem at 8 % 8) vscroll stepped in
+      overlayAt (addressAt mem at 3) vscroll (inFont (byteAt mem at 10) moved)
 
   abbrev fullMap : Map → Map
   fullMap p =
       let stepped = mapStepping (addressAt mem at 11) (stepAt mem at 14) (switched (mapSwitch c (p .on)) p) in
+      let vscroll = byteAt mem at 17 % 32 in
       let width = fieldWidth (byteAt mem at 18) in
       let height = byteAt mem at 19 % 32 + 1 in
-      mapAt (addressAt mem at 11) 0 (fielded (byteAt mem at 16 % 32) (byteAt mem at 17 % 32) width height stepped)
+      mapAt (addressAt mem at 11) (vscroll % height) (fielded (byteAt mem at 16 % 32) vscroll width height stepped)
 
   pub full-record :
       Full c d

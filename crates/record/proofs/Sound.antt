@@ -186,12 +186,13 @@ module _ (mem : List ℕ) (bytes : Bytes mem) (c d : ℕ) where
       let o = r .settings .overlay in
       let p = r .settings .map in
       let l = f .settings in
-      let text : cond (textRestarts c) 0 (o .counter) < 8 = by-cond (λ (n : ℕ). n < 8) (textRestarts c) 0 (o .counter) (λ e. omega arith) (λ e. l .overlay .counter) in
-      let again = cond (fieldRestarts d) 0 (p .counter) in
-      let field : again < p .height = by-cond (λ (n : ℕ). n < p .height) (fieldRestarts d) 0 (p .counter) (λ e. l .map .low) (λ e. l .field (right-false (bit d 1) (bit d 2) e)) in
+      let row = cond (textRestarts c) (o .vscroll) (o .counter) in
+      let text : row < 8 = by-cond (λ (n : ℕ). n < 8) (textRestarts c) _ _ (λ e. l .overlay .vscroll) (λ e. l .overlay .counter) in
+      let line = cond (fieldRestarts d) (p .vscroll % p .height) (p .counter) in
+      let field : line < p .height = by-cond (λ (n : ℕ). n < p .height) (fieldRestarts d) _ _ (λ e. mod-lt (p .vscroll) (l .map .low)) (λ e. l .field (right-false (bit d 1) (bit d 2) e)) in
       record {
-        overlay = overlay-at-fits o (l .overlay) (o .address) (cond (textRestarts c) 0 (o .counter)) (l .overlay .address) text;
-        map = map-at-fits (mapAt (p .address) 0 p) (l .map) (p .address) again (l .map .address) field;
+        overlay = overlay-at-fits o (l .overlay) (o .address) row (l .overlay .address) text;
+        map = map-at-fits (mapAt (p .address) 0 p) (l .map) (p .address) line (l .map .address) field;
         look = l .look;
         origin = l .origin;
       }

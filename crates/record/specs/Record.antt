@@ -1,4 +1,5 @@
--- Document 01, "The XDL and its 240 lines": "A record is two control bytes, then data in the manual's fetch order". c and d are the control bytes.
+-- Document 01, "The XDL and its 240 lines", and document 02, A1 and A2: "A record is two control bytes, then data in the manual's fetch order". c and d are
+-- the control bytes.
 use mathlib.Core.Bool.{Bool, cond, _||_}
 use mathlib.Core.List.{List}
 use Prim.Native.Nat.{ℕ, _+_, _/_, _%_}
@@ -91,21 +92,22 @@ fieldGroup mem d r =
 unfoldable pub lookGroup : List ℕ → ℕ → Reader → Reader
 lookGroup mem d r = cond (bit d 3) (looked 2 (lookAt mem (r .position) 0) r) r
 
--- "Text counter to 0: TMON alone, or OVADR."
+-- a reset of the text counter: "TMON alone, or OVADR"
 abbrev pub textRestarts : ℕ → Bool
 textRestarts c = eqb (c % 8) 1 || bit c 6
 
--- "Field counter to 0: MAPADR or MAPPAR."
+-- a reset of the field counter: "MAPADR or MAPPAR"
 abbrev pub fieldRestarts : ℕ → Bool
 fieldRestarts d = bit d 1 || bit d 2
 
--- both counters, once all data of the record are read
+-- both counters, once all data of the record are read; document 02, A2: "a reset of the text counter puts it to vscroll after the record's own OVSCRL, and a
+-- reset of the field counter puts it to map vscroll modulo the field height"
 unfoldable pub restarted : ℕ → ℕ → Reader → Reader
 restarted c d r =
     let o = r .settings .overlay in
     let p = r .settings .map in
-    let o1 = overlayAt (o .address) (cond (textRestarts c) 0 (o .counter)) o in
-    let p1 = mapAt (p .address) (cond (fieldRestarts d) 0 (p .counter)) p in
+    let o1 = overlayAt (o .address) (cond (textRestarts c) (o .vscroll) (o .counter)) o in
+    let p1 = mapAt (p .address) (cond (fieldRestarts d) (p .vscroll % p .height) (p .counter)) p in
     withSettings (withMap p1 (withOverlay o1 (r .settings))) r
 
 -- "The order of fetching data in the XDL": the data that the control bytes announce, first to last

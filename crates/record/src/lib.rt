@@ -1,5 +1,6 @@
 ghost use mathlib.Core.Path.{_≡_};
 ghost use mathlib.Core.Bool.{cond};
+ghost use Prim.Native.Nat.{_%_};
 ghost use Rattle.record.specs.Record.{
   pixelMode,
   overlayMode,
@@ -104,11 +105,21 @@ fn display_width(b: u8) -> u8
     if w == 3 { 1 } else { w }
 }
 
-// A counter of the next line: from its start again, or as it is.
-fn counter_of(again: bool, counter: u8) -> u8
-    ensures { λ r. ⌜ r ≡ cond again 0 counter ⌝ }
+// Where the field counter starts. A field has a height in every sound state; without one the remainder is the number itself.
+fn field_start(vscroll: u8, height: u8) -> u8
+    ensures { λ r. ⌜ r ≡ vscroll % height ⌝ }
 {
-    if again { 0 } else { counter }
+    if height == 0 {
+        return vscroll;
+    }
+    vscroll % height
+}
+
+// A counter of the next line: from its start again, or as it is.
+fn counter_of(again: bool, start: u8, counter: u8) -> u8
+    ensures { λ r. ⌜ r ≡ cond again start counter ⌝ }
+{
+    if again { start } else { counter }
 }
 
 impl Reader {
@@ -244,14 +255,17 @@ impl Reader {
         }
     }
 
-    // The counters start again after all data are read.
+    // The counters start again after all data are read, so with the scrolls of this record.
     fn restart(mut self, c: u8, d: u8) -> Self
         ensures { λ r. ⌜ r ≡ restarted c d self ⌝ }
     {
         let text = (c % 8 == 1) | (c / 64 % 2 == 1);
         let field = (d / 2 % 2 == 1) | (d / 4 % 2 == 1);
-        let row = counter_of(text, self.settings.overlay.counter);
-        let line = counter_of(field, self.settings.map.counter);
+        let overlay = self.settings.overlay;
+        let map = self.settings.map;
+        let row = counter_of(text, overlay.vscroll, overlay.counter);
+        let start = field_start(map.vscroll, map.height);
+        let line = counter_of(field, start, map.counter);
         self.settings.overlay.counter = row;
         self.settings.map.counter = line;
         self

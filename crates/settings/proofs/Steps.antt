@@ -3,7 +3,7 @@
 use mathlib.Core.Path.{_≡_, refl, sym, ap, ap₂, _∙_}
 use mathlib.Core.Bool.{Bool, true, false, cond}
 use Prim.Native.Nat.{ℕ, _+_, _*_, _/_, _%_, _≤_, _<_}
-use native.Mathlib.Nat.{div-add-mod', mod-lt, mod-add-mod, mod-eq-of-lt, div-eq-of-lt, zero-mul, add-zero, add-mul}
+use native.Mathlib.Nat.{div-add-mod', mod-lt, mod-add-mod, mod-eq-of-lt, div-eq-of-lt, zero-mul, zero-add, add-zero, add-mul}
 use native.Mathlib.Omega.{arith}
 use lib.Arith.{digits-div, digits-mod}
 use lib.Dec.{eqb, ltb}
@@ -20,14 +20,14 @@ use Rattle.settings.specs.declared.Map.{Map}
 pub step-more : (a s n : ℕ) → ((a + n * s) % 524288 + s) % 524288 ≡ (a + (n + 1) * s) % 524288
 step-more a s n = mod-add-mod (a + n * s) 524288 s ∙ ap (λ (x : ℕ). x % 524288) (omega (arith, add-mul n 1 s))
 
--- a counter that began at c, k lines below: the address has made (c + k) / h steps, and the counter is (c + k) % h. One line more: inside a
+-- a counter that starts at c, k lines below: the address has made (k + c) / h steps, and the counter is (k + c) % h. One line more: inside a
 -- turn of h lines, and at its end.
 module _ (h a s c k : ℕ) {A : Type 0} (put : ℕ → ℕ → A) where
   abbrev now : ℕ
-  now = c + k
+  now = k + c
 
   abbrev next : ℕ
-  next = c + (k + 1)
+  next = k + 1 + c
 
   whole : next ≡ now / h * h + (now % h + 1)
   whole = omega (arith, div-add-mod' now h)
@@ -53,7 +53,7 @@ module _ (o : Overlay) where
   unfolding overlayBelow
   off-below k m = simp m
 
-  pub text-below : (k : ℕ) → o .mode ≡ 1 → overlayBelow o k ≡ overlayAt ((o .address + (o .counter + k) / 8 * o .step) % 524288) ((o .counter + k) % 8) o
+  pub text-below : (k : ℕ) → o .mode ≡ 1 → overlayBelow o k ≡ overlayAt ((o .address + (k + o .counter) / 8 * o .step) % 524288) ((k + o .counter) % 8) o
   unfolding overlayBelow
   text-below k m = simp m
 
@@ -62,19 +62,19 @@ module _ (o : Overlay) where
   pixels-below k m n = simp (ne-eqb _ _ m, ne-eqb _ _ n)
 
   pub overlay-below : (k : ℕ) → advancedOverlay (overlayBelow o k) ≡ overlayBelow o (k + 1)
-  overlay-below k = by (eqb (o .mode) 0) refl (eqb (o .mode) 1) refl (ltb ((o .counter + k) % 8) 7) refl
+  overlay-below k = by (eqb (o .mode) 0) refl (eqb (o .mode) 1) refl (ltb ((k + o .counter) % 8) 7) refl
     where
-      by : (x : Bool) → eqb (o .mode) 0 ≡ x → (y : Bool) → eqb (o .mode) 1 ≡ y → (z : Bool) → ltb ((o .counter + k) % 8) 7 ≡ z → advancedOverlay (overlayBelow o k) ≡ overlayBelow o (k + 1)
+      by : (x : Bool) → eqb (o .mode) 0 ≡ x → (y : Bool) → eqb (o .mode) 1 ≡ y → (z : Bool) → ltb ((k + o .counter) % 8) 7 ≡ z → advancedOverlay (overlayBelow o k) ≡ overlayBelow o (k + 1)
       by true p y q z r =
           let m = eqb-true (o .mode) 0 p in
           ap advancedOverlay (off-below k m) ∙ overlay-off _ m ∙ sym (off-below (k + 1) m)
       by false p true q true r =
           let m = eqb-true (o .mode) 1 q in
-          let l = ltb-true ((o .counter + k) % 8) 7 r in
+          let l = ltb-true ((k + o .counter) % 8) 7 r in
           ap advancedOverlay (text-below k m) ∙ text-more _ m l ∙ ticked-inside 8 (o .address) (o .step) (o .counter) k (λ a c. overlayAt a c o) (omega arith) ∙ sym (text-below (k + 1) m)
       by false p true q false r =
           let m = eqb-true (o .mode) 1 q in
-          let l = ltb-false ((o .counter + k) % 8) 7 r in
+          let l = ltb-false ((k + o .counter) % 8) 7 r in
           ap advancedOverlay (text-below k m) ∙ text-full _ m l ∙ ticked-turn 8 (o .address) (o .step) (o .counter) k (λ a c. overlayAt a c o) (omega arith) (omega arith) ∙ sym (text-below (k + 1) m)
       by false p false q z r =
           let m = eqb-false (o .mode) 0 p in
@@ -86,19 +86,19 @@ module _ (p : Map) where
   unfolding mapBelow
   off-map-below k e = simp e
 
-  pub on-map-below : (k : ℕ) → p .on ≡ true → mapBelow p k ≡ mapAt ((p .address + (p .counter + k) / p .height * p .step) % 524288) ((p .counter + k) % p .height) p
+  pub on-map-below : (k : ℕ) → p .on ≡ true → mapBelow p k ≡ mapAt ((p .address + (k + p .counter) / p .height * p .step) % 524288) ((k + p .counter) % p .height) p
   unfolding mapBelow
   on-map-below k e = simp e
 
   pub map-below : (k : ℕ) → 1 ≤ p .height → advancedMap (mapBelow p k) ≡ mapBelow p (k + 1)
-  map-below k pos = by (p .on) refl (ltb ((p .counter + k) % p .height + 1) (p .height)) refl
+  map-below k pos = by (p .on) refl (ltb ((k + p .counter) % p .height + 1) (p .height)) refl
     where
-      by : (x : Bool) → p .on ≡ x → (y : Bool) → ltb ((p .counter + k) % p .height + 1) (p .height) ≡ y → advancedMap (mapBelow p k) ≡ mapBelow p (k + 1)
+      by : (x : Bool) → p .on ≡ x → (y : Bool) → ltb ((k + p .counter) % p .height + 1) (p .height) ≡ y → advancedMap (mapBelow p k) ≡ mapBelow p (k + 1)
       by true e true r =
-          let l = ltb-true ((p .counter + k) % p .height + 1) (p .height) r in
+          let l = ltb-true ((k + p .counter) % p .height + 1) (p .height) r in
           ap advancedMap (on-map-below k e) ∙ field-more _ e l ∙ ticked-inside (p .height) (p .address) (p .step) (p .counter) k (λ a c. mapAt a c p) l ∙ sym (on-map-below (k + 1) e)
       by true e false r =
-          let l = ltb-false ((p .counter + k) % p .height + 1) (p .height) r in
+          let l = ltb-false ((k + p .counter) % p .height + 1) (p .height) r in
           ap advancedMap (on-map-below k e) ∙ field-full _ e l ∙ ticked-turn (p .height) (p .address) (p .step) (p .counter) k (λ a c. mapAt a c p) pos l ∙ sym (on-map-below (k + 1) e)
       by false e y r = ap advancedMap (off-map-below k e) ∙ map-off _ e ∙ sym (off-map-below (k + 1) e)
 
@@ -112,11 +112,11 @@ first-address : (a s : ℕ) → a < 524288 → (a + 0 * s) % 524288 ≡ a
 first-address a s l = simp (zero-mul, add-zero) (mod-eq-of-lt l)
 
 module _ (h c : ℕ) (l : c < h) where
-  no-step : (c + 0) / h ≡ 0
-  no-step = ap (λ (x : ℕ). x / h) (add-zero c) ∙ div-eq-of-lt l
+  no-step : (0 + c) / h ≡ 0
+  no-step = ap (λ (x : ℕ). x / h) (zero-add c) ∙ div-eq-of-lt l
 
-  same-count : (c + 0) % h ≡ c
-  same-count = ap (λ (x : ℕ). x % h) (add-zero c) ∙ mod-eq-of-lt l
+  same-count : (0 + c) % h ≡ c
+  same-count = ap (λ (x : ℕ). x % h) (zero-add c) ∙ mod-eq-of-lt l
 
 same-choice : (t : Bool) (n : ℕ) → cond t n n ≡ n
 same-choice true n = refl

@@ -1,4 +1,4 @@
--- Document 01, "Plans": what a band shows some lines below its first line. Its counters are counted on from what they are on that line.
+-- Document 01, "Plans", and document 02, A2: what a band shows some lines below its first line. The counters of that line are where the band starts.
 use mathlib.Core.Bool.{cond}
 use Prim.Native.Nat.{ℕ, _+_, _*_, _/_, _%_}
 use lib.Dec.{eqb}
@@ -7,24 +7,26 @@ use Rattle.settings.specs.declared.Settings.{Settings}
 use Rattle.settings.specs.declared.Overlay.{Overlay}
 use Rattle.settings.specs.declared.Map.{Map}
 
--- "n = k in pixel modes, floor(k/8) in text, 0 in an off band": in text the band's own counter comes before the k lines; it is 0 where a full band begins
+-- "n = k in pixel modes, floor(k/8) in text, 0 in an off band"; A2: in text "k becomes k plus the full band's vscroll", which is where its counter starts
 abbrev pub overlaySteps : Overlay → ℕ → ℕ
-overlaySteps o k = cond (eqb (o .mode) 0) 0 (cond (eqb (o .mode) 1) ((o .counter + k) / 8) k)
+overlaySteps o k = cond (eqb (o .mode) 0) 0 (cond (eqb (o .mode) 1) ((k + o .counter) / 8) k)
 
--- "the overlay address is OVADR + n·OVSTEP modulo 524,288 ..; text counter k mod 8 in text", from the band's own counter on; else as on the first line
+-- "the overlay address is OVADR + n·OVSTEP modulo 524,288 ..; text counter k mod 8 in text"; A2: "k plus .., in the address and in the counter; in pixel
+-- modes and off bands the text counter holds that starting value"
 unfoldable pub overlayBelow : Overlay → ℕ → Overlay
 overlayBelow o k =
     overlayAt
     ((o .address + overlaySteps o k * o .step) % 524288)
-    (cond (eqb (o .mode) 1) ((o .counter + k) % 8) (o .counter))
+    (cond (eqb (o .mode) 1) ((k + o .counter) % 8) (o .counter))
     o
 
--- "Map likewise with floor(k/height) and k mod height when on, else 0": likewise from the map's own counter on; else as on the first line
+-- "Map likewise with floor(k/height) and k mod height when on"; A2: "k plus (its map vscroll mod height) for the map", which is where its counter starts;
+-- "with the map off" the counter holds that value
 unfoldable pub mapBelow : Map → ℕ → Map
 mapBelow p k =
     mapAt
-    ((p .address + cond (p .on) ((p .counter + k) / p .height) 0 * p .step) % 524288)
-    (cond (p .on) ((p .counter + k) % p .height) (p .counter))
+    ((p .address + cond (p .on) ((k + p .counter) / p .height) 0 * p .step) % 524288)
+    (cond (p .on) ((k + p .counter) % p .height) (p .counter))
     p
 
 -- the settings of a band whose first line has s, k lines below it

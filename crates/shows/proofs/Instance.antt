@@ -1,4 +1,5 @@
--- The theorem at two plans, with every number written out: the plan of document 01's example, and a text band with a map and four lines that run on.
+-- The theorem at two plans, with every number written out: the plan of document 01's example, and a scrolled text band with a scrolled map and four lines
+-- that run on.
 -- Memory is 16,384 zeros, the board is new, and the list begins at 524,286, so that it wraps behind two bytes. Assumes nothing.
 use mathlib.Core.Path.{_≡_, refl}
 use mathlib.Core.Bool.{Bool, true, false, _&&_}
@@ -94,11 +95,12 @@ pub example-last : line example 22 239 ≡ done example-line
 unfolding parse rest parseFrom itemAt fitted fullAt soundFull meaningFrom fullSettings settingsBelow overlayBelow mapBelow off
 example-last = line-is example 22 refl (example-taken .0) (example-taken .1) 239 (lit< tt)
 
--- twelve lines of text from 524,272 on, 40 bytes a row, and a map from 1,000 on with fields 5 lines high, 80 bytes a row; then four lines that run on
+-- twelve lines of text from 524,272 on, 40 bytes a row, scrolled by 2 lines; a map from 1,000 on with fields 5 lines high, 80 bytes a row, scrolled by 7,
+-- which is 2 lines of a field; then four lines that run on, with another vscroll
 abbrev rows : List ℕ
 rows =
     0x17 ∷ 0 ∷ 1 ∷ 0
-    ∷ 12 ∷ 1 ∷ 240 ∷ 255 ∷ 7 ∷ 40 ∷ 0 ∷ 1 ∷ 2 ∷ 3 ∷ 1 ∷ 232 ∷ 3 ∷ 0 ∷ 80 ∷ 0 ∷ 4 ∷ 5 ∷ 9 ∷ 5 ∷ 2 ∷ 7 ∷ 99
+    ∷ 12 ∷ 1 ∷ 240 ∷ 255 ∷ 7 ∷ 40 ∷ 0 ∷ 1 ∷ 2 ∷ 3 ∷ 1 ∷ 232 ∷ 3 ∷ 0 ∷ 80 ∷ 0 ∷ 4 ∷ 7 ∷ 9 ∷ 5 ∷ 2 ∷ 7 ∷ 99
     ∷ 7 ∷ 0 ∷ 2 ∷ 0
     ∷ 4 ∷ 6 ∷ 7 ∷ 8 ∷ 0 ∷ 14 ∷ 33
     ∷ []
@@ -107,10 +109,11 @@ rows-taken : (parse rows ≡ good (itemsOf (parse rows))) × (length (bytesOf (i
 unfolding parse rest parseFrom itemAt fitted fullAt soundFull runningAt soundRunning fullRecord runningRecord
 rows-taken = (refl, refl)
 
--- line 14 runs on: row 1 of text, line 6 of it; row 2 of the map, line 4 of it; the second record, 22 bytes behind 524,286, is at 20
+-- line 14 runs on: 16 lines below where the rows start, so row 2 of text, line 0 of it; row 3 of the map, line 1 of it; the second record, 22 bytes behind
+-- 524,286, is at 20
 pub rows-running : line rows 30 14 ≡ done (record {
-  overlay = record { mode = 1; address = 24; step = 40; hscroll = 6; vscroll = 7; font = 8; counter = 6 };
-  map = record { on = true; address = 1160; step = 80; hscroll = 4; vscroll = 5; width = 9; height = 5; counter = 4 };
+  overlay = record { mode = 1; address = 64; step = 40; hscroll = 6; vscroll = 7; font = 8; counter = 0 };
+  map = record { on = true; address = 1240; step = 80; hscroll = 4; vscroll = 7; width = 9; height = 5; counter = 1 };
   look = record { width = 0; palette = 2; playfield = 3; priority = 33 };
   origin = 20;
 })
@@ -119,8 +122,8 @@ rows-running = line-is rows 30 refl (rows-taken .0) (rows-taken .1) 14 (lit< tt)
 
 -- below the plan: off, and the rest held as 16 lines left it
 pub rows-below : line rows 30 239 ≡ done (record {
-  overlay = record { mode = 0; address = 64; step = 40; hscroll = 6; vscroll = 7; font = 8; counter = 0 };
-  map = record { on = false; address = 1240; step = 80; hscroll = 4; vscroll = 5; width = 9; height = 5; counter = 1 };
+  overlay = record { mode = 0; address = 64; step = 40; hscroll = 6; vscroll = 7; font = 8; counter = 2 };
+  map = record { on = false; address = 1240; step = 80; hscroll = 4; vscroll = 7; width = 9; height = 5; counter = 3 };
   look = record { width = 0; palette = 2; playfield = 3; priority = 33 };
   origin = 20;
 })

@@ -181,7 +181,7 @@ module _ (mem : List ℕ) (r : Reader) where
       let height = height-back (b .fieldheight) _ (h 19 (lit< tt)) (f .low) (f .high) i in
       let q = fielded maphscroll mapvscroll width height (mapStepping mapaddress mapstep (switched (on i) (r .settings .map))) in
       let look = look-back mem at 20 (b .width) (b .palettes) (b .priority) (h 20 (lit< tt)) (h 21 (lit< tt)) (f .width) (f .palettes) i in
-      behind 22 (h 2 (lit< tt) i) (ended i) (withLook look (withMap (mapAt mapaddress 0 q) (withOverlay (overlayAt address 0 (inFont (h 10 (lit< tt) i) o)) (withOrigin at (r .settings))))))
+      behind 22 (h 2 (lit< tt) i) (ended i) (withLook look (withMap (mapAt mapaddress (mapvscroll % height) q) (withOverlay (overlayAt address vscroll (inFont (h 10 (lit< tt) i) o)) (withOrigin at (r .settings))))))
 
   pub read-running :
       (b : Running) (last : Bool) → soundRunning b ≡ true → Holds mem at (runningRecord b last)

@@ -5,7 +5,7 @@ use mathlib.Core.List.{List, [], _∷_}
 use mathlib.Core.Logic.{_⊎_, inl, inr, ⊎-elim}
 use Prim.Native.Nat.{ℕ, zero, suc, _+_, _-_, _%_, _≤_, _<_}
 use native.Mathlib.Decide.{decLt}
-use native.Mathlib.Nat.{zero-add, add-zero, add-assoc, suc-add}
+use native.Mathlib.Nat.{zero-add, add-zero, add-assoc, suc-add, mod-lt}
 use native.Mathlib.Omega.{arith}
 use lib.Dec.{ltb}
 use borrow.Author.Tests.{lt-ltb, le-ltb}
@@ -49,7 +49,7 @@ full-first : (b : Full) (at : ℕ) → soundItem (full b) ≡ true → fullSetti
 unfolding fullSettings
 full-first b at s =
     let f = full-fits b s in
-    sym (settings-first (fullSettings b at) (omega (arith, f .address)) (omega arith) (omega (arith, f .mapaddress)) (omega (arith, f .low)))
+    sym (settings-first (fullSettings b at) (omega (arith, f .address)) (omega (arith, f .vscroll)) (omega (arith, f .mapaddress)) (mod-lt (b .mapvscroll) (f .low)))
 
 running-below : (b : Running) (at : ℕ) (s : Settings) (k : ℕ) → runningSettings b at (settingsBelow s k) ≡ settingsBelow (runningSettings b at s) k
 unfolding runningSettings settingsBelow overlayBelow mapBelow

@@ -94,6 +94,19 @@ impl Settings {
         }
     }
 
+    /// What a record with these control bits does to the counters. One that is reset starts at its scroll, so this comes
+    /// after the record's own scrolls and height.
+    fn reset_counters(&mut self, bits: u16) {
+        use control::*;
+
+        if bits & (TMON | GMON | OVOFF) == TMON || bits & OVADR != 0 {
+            self.text_counter = self.vscroll;
+        }
+        if bits & (MAPADR | MAPPAR) != 0 {
+            self.field_counter = self.map_vscroll % self.field_height;
+        }
+    }
+
     /// From one line to the next.
     fn advance(&mut self) {
         match self.mode {
@@ -207,10 +220,7 @@ impl Frame {
         let bits = u16::from_le_bytes([fetch(), fetch()]);
         match bits & (TMON | GMON | OVOFF) {
             0 => {}
-            TMON => {
-                now.mode = Mode::Text;
-                now.text_counter = 0;
-            }
+            TMON => now.mode = Mode::Text,
             GMON => {
                 now.mode = match bits & (HR | LR) {
                     0 => Mode::Sr,
@@ -230,7 +240,6 @@ impl Frame {
         if bits & OVADR != 0 {
             now.overlay_address = u32::from_le_bytes([fetch(), fetch(), fetch() & 7, 0]);
             now.overlay_step = u16::from_le_bytes([fetch(), fetch() & 0x0F]);
-            now.text_counter = 0;
         }
         if bits & OVSCRL != 0 {
             now.hscroll = fetch() & 7;
@@ -242,14 +251,12 @@ impl Frame {
         if bits & MAPADR != 0 {
             now.map_address = u32::from_le_bytes([fetch(), fetch(), fetch() & 7, 0]);
             now.map_step = u16::from_le_bytes([fetch(), fetch() & 0x0F]);
-            now.field_counter = 0;
         }
         if bits & MAPPAR != 0 {
             now.map_hscroll = fetch() & 31;
             now.map_vscroll = fetch() & 31;
             now.field_width = ((fetch() & 31) + 1).max(8);
             now.field_height = (fetch() & 31) + 1;
-            now.field_counter = 0;
         }
         if bits & OVATT != 0 {
             let look = fetch();
@@ -261,6 +268,7 @@ impl Frame {
             now.playfield_palette = look >> 6;
             now.priority = fetch();
         }
+        now.reset_counters(bits);
         self.ended = bits & END != 0;
     }
 }

@@ -314,19 +314,29 @@ pub fn meaning(plan: &[u8], address: u32) -> Result<Vec<Settings>, Refused> {
     Ok(lines)
 }
 
+/// The whole rows in a number of lines, and the lines left over.
+fn rows(lines: u32, height: u32) -> (u32, u32) {
+    (lines / height, lines % height)
+}
+
 /// The line that is `below` lines below the first of a full band, in an item whose record lies at `origin`.
 fn line_of(band: &FullBody, below: u32, look: Look, origin: u32) -> Settings {
     let mode = Mode::from_number(band[full::MODE].into()).expect("the mode is in range");
     let map = band[full::MAP] == 1;
     let field_height = band[full::FIELD_HEIGHT];
+    // The counters start at the full band's own scrolls; that of an item that runs on doesn't move them.
+    let start = u32::from(band[full::VSCROLL]);
     let (overlay_steps, text_counter) = match mode {
-        Mode::Off => (0, 0),
-        Mode::Text => (below / 8, below % 8),
-        Mode::Sr | Mode::Hr | Mode::Lr => (below, 0),
+        Mode::Off => (0, start),
+        Mode::Text => rows(start + below, 8),
+        Mode::Sr | Mode::Hr | Mode::Lr => (below, start),
     };
-    let (map_steps, field_counter) = match u32::from(field_height) {
-        height if map => (below / height, below % height),
-        _ => (0, 0),
+    let height = u32::from(field_height);
+    let start = u32::from(band[full::MAP_VSCROLL]) % height;
+    let (map_steps, field_counter) = if map {
+        rows(start + below, height)
+    } else {
+        (0, start)
     };
     let moved =
         |address: u32, steps: u32, step: u16| (address + steps * u32::from(step)) & ADDRESS_MASK;
