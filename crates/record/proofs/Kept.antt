@@ -1,20 +1,25 @@
 -- What the data of a record leave as it is: the origin, which is where the record begins, and both counters, which are put behind all data. Assumes nothing.
 use mathlib.Core.Path.{_≡_, refl, ap, _∙_}
-use mathlib.Core.Bool.{cond}
 use mathlib.Core.List.{List}
-use Prim.Native.Nat.{ℕ, _%_}
+use Prim.Native.Nat.{ℕ}
 use Rattle.laws.proofs.Choice.{by-cond}
 use Rattle.laws.specs.Bit.{bit}
+use Rattle.settings.specs.Parts.{overlayAt, mapAt}
 use Rattle.vram.specs.Memory.{byteAt}
-use Rattle.record.specs.Record.{textRestarts, fieldRestarts, controlled, repeatGroup, addressGroup, scrollGroup, fontGroup, mapGroup, fieldGroup, lookGroup, restarted, fetchedBy, recordOf}
-use Rattle.record.specs.Counters.{TextCounter, FieldCounter}
+use Rattle.record.specs.Record.{controlled, repeatGroup, addressGroup, scrollGroup, fontGroup, mapGroup, fieldGroup, lookGroup, restarted, fetchedBy, recordOf}
+use Rattle.record.specs.Counters.{textCounter, fieldCounter, TextCounter, FieldCounter}
 use Rattle.record.specs.declared.Reader.{Reader}
 
 abbrev pub originIn : Reader → ℕ
 originIn r = r .settings .origin
 
-abbrev keptIn : Reader → ℕ × (ℕ × ℕ)
-keptIn r = (originIn r, (r .settings .overlay .counter, r .settings .map .counter))
+record Kept : Type 0 where
+  origin : ℕ
+  text : ℕ
+  field : ℕ
+
+abbrev keptIn : Reader → Kept
+keptIn r = record { origin = originIn r; text = r .settings .overlay .counter; field = r .settings .map .counter }
 
 -- each group of data
 module _ (mem : List ℕ) (v : ℕ) (r : Reader) where
@@ -63,20 +68,22 @@ module _ (mem : List ℕ) (r : Reader) where
   abbrev d : ℕ
   d = byteAt mem (r .position) 1
 
-  data-keep : keptIn (fetchedBy mem c d (controlled c d r)) ≡ (r .position, (r .settings .overlay .counter, r .settings .map .counter))
+  data-keep : keptIn (fetchedBy mem c d (controlled c d r)) ≡ record { origin = r .position; text = r .settings .overlay .counter; field = r .settings .map .counter }
   unfolding controlled
   data-keep = fetched-keeps mem c d (controlled c d r)
 
   pub record-origin : originIn (recordOf mem r) ≡ r .position
   unfolding restarted
-  record-origin = ap (λ (x : ℕ × (ℕ × ℕ)). x .0) data-keep
+  record-origin = ap (λ (k : Kept). k .origin) data-keep
 
 pub text-counter : TextCounter
 unfolding restarted
-text-counter mem r = ap (λ (x : ℕ × (ℕ × ℕ)). cond (textRestarts (c mem r)) (recordOf mem r .settings .overlay .vscroll) (x .1 .0)) (data-keep mem r)
+text-counter mem r =
+    let o = r .settings .overlay in
+    ap (λ (k : Kept). textCounter (c mem r) (overlayAt (o .address) (k .text) o) (recordOf mem r .settings .overlay)) (data-keep mem r)
 
 pub field-counter : FieldCounter
 unfolding restarted
 field-counter mem r =
-    let p = recordOf mem r .settings .map in
-    ap (λ (x : ℕ × (ℕ × ℕ)). cond (fieldRestarts (d mem r)) (p .vscroll % p .height) (x .1 .1)) (data-keep mem r)
+    let p = r .settings .map in
+    ap (λ (k : Kept). fieldCounter (d mem r) (mapAt (p .address) (k .field) p) (recordOf mem r .settings .map)) (data-keep mem r)
