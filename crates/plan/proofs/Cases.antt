@@ -130,29 +130,29 @@ text :
 unfolding off overlayBelow mapBelow settingsBelow fullSettings runningSettings meaningFrom
 text = refl
 
--- text scrolled by 3: its first row has five lines, and a running-on item's vscroll moves no counter. Beside it a map that is scrolled by 10, in fields of
--- 4 lines: of the first field two lines are left
+-- text scrolled by 3: its first row has five lines, and a running-on item's vscroll moves no counter. Beside it a map that is scrolled by 13, in fields of
+-- 4 lines: of the first field three lines are left
 scrolled-text :
-    lines (bandBy 3 10 6 1 4096 160 1 50 4 ∷ onwardBy 6 2 0 1 ∷ []) 7 (0 ∷ 1 ∷ 2 ∷ 4 ∷ 5 ∷ 6 ∷ 7 ∷ 8 ∷ 239 ∷ [])
-    ≡ (1 ∷ 4096 ∷ 3 ∷ 0 ∷ 2 ∷ 0 ∷ 1 ∷ 0 ∷ 7 ∷ [])
-    ∷ (1 ∷ 4096 ∷ 4 ∷ 0 ∷ 3 ∷ 0 ∷ 1 ∷ 0 ∷ 7 ∷ [])
-    ∷ (1 ∷ 4096 ∷ 5 ∷ 50 ∷ 0 ∷ 0 ∷ 1 ∷ 0 ∷ 7 ∷ [])
-    ∷ (1 ∷ 4096 ∷ 7 ∷ 50 ∷ 2 ∷ 0 ∷ 1 ∷ 0 ∷ 7 ∷ [])
-    ∷ (1 ∷ 4256 ∷ 0 ∷ 50 ∷ 3 ∷ 0 ∷ 1 ∷ 0 ∷ 7 ∷ [])
-    ∷ (1 ∷ 4256 ∷ 1 ∷ 100 ∷ 0 ∷ 0 ∷ 1 ∷ 0 ∷ 29 ∷ [])
-    ∷ (1 ∷ 4256 ∷ 2 ∷ 100 ∷ 1 ∷ 0 ∷ 1 ∷ 0 ∷ 29 ∷ [])
-    ∷ (0 ∷ 4256 ∷ 3 ∷ 100 ∷ 2 ∷ 0 ∷ 1 ∷ 0 ∷ 29 ∷ [])
-    ∷ (0 ∷ 4256 ∷ 3 ∷ 100 ∷ 2 ∷ 0 ∷ 1 ∷ 0 ∷ 29 ∷ [])
+    lines (bandBy 3 13 6 1 4096 160 1 50 4 ∷ onwardBy 6 2 0 1 ∷ []) 7 (0 ∷ 1 ∷ 2 ∷ 4 ∷ 5 ∷ 6 ∷ 7 ∷ 8 ∷ 239 ∷ [])
+    ≡ (1 ∷ 4096 ∷ 3 ∷ 0 ∷ 1 ∷ 0 ∷ 1 ∷ 0 ∷ 7 ∷ [])
+    ∷ (1 ∷ 4096 ∷ 4 ∷ 0 ∷ 2 ∷ 0 ∷ 1 ∷ 0 ∷ 7 ∷ [])
+    ∷ (1 ∷ 4096 ∷ 5 ∷ 0 ∷ 3 ∷ 0 ∷ 1 ∷ 0 ∷ 7 ∷ [])
+    ∷ (1 ∷ 4096 ∷ 7 ∷ 50 ∷ 1 ∷ 0 ∷ 1 ∷ 0 ∷ 7 ∷ [])
+    ∷ (1 ∷ 4256 ∷ 0 ∷ 50 ∷ 2 ∷ 0 ∷ 1 ∷ 0 ∷ 7 ∷ [])
+    ∷ (1 ∷ 4256 ∷ 1 ∷ 50 ∷ 3 ∷ 0 ∷ 1 ∷ 0 ∷ 29 ∷ [])
+    ∷ (1 ∷ 4256 ∷ 2 ∷ 100 ∷ 0 ∷ 0 ∷ 1 ∷ 0 ∷ 29 ∷ [])
+    ∷ (0 ∷ 4256 ∷ 3 ∷ 100 ∷ 1 ∷ 0 ∷ 1 ∷ 0 ∷ 29 ∷ [])
+    ∷ (0 ∷ 4256 ∷ 3 ∷ 100 ∷ 1 ∷ 0 ∷ 1 ∷ 0 ∷ 29 ∷ [])
     ∷ []
 unfolding off overlayBelow mapBelow settingsBelow fullSettings runningSettings meaningFrom
 scrolled-text = refl
 
--- SR scrolled by 3, and a map scrolled by 10 that is off: both counters hold where they start, and the addresses are as ever
+-- SR scrolled by 3, and a map scrolled by 13 that is off: both counters hold where they start, and the addresses are as ever
 starts-held :
-    lines (bandBy 3 10 2 2 5 7 0 50 4 ∷ []) 7 (0 ∷ 1 ∷ 2 ∷ [])
-    ≡ (2 ∷ 5 ∷ 3 ∷ 0 ∷ 2 ∷ 0 ∷ 1 ∷ 0 ∷ 7 ∷ [])
-    ∷ (2 ∷ 12 ∷ 3 ∷ 0 ∷ 2 ∷ 0 ∷ 1 ∷ 0 ∷ 7 ∷ [])
-    ∷ (0 ∷ 19 ∷ 3 ∷ 0 ∷ 2 ∷ 0 ∷ 1 ∷ 0 ∷ 7 ∷ [])
+    lines (bandBy 3 13 2 2 5 7 0 50 4 ∷ []) 7 (0 ∷ 1 ∷ 2 ∷ [])
+    ≡ (2 ∷ 5 ∷ 3 ∷ 0 ∷ 1 ∷ 0 ∷ 1 ∷ 0 ∷ 7 ∷ [])
+    ∷ (2 ∷ 12 ∷ 3 ∷ 0 ∷ 1 ∷ 0 ∷ 1 ∷ 0 ∷ 7 ∷ [])
+    ∷ (0 ∷ 19 ∷ 3 ∷ 0 ∷ 1 ∷ 0 ∷ 1 ∷ 0 ∷ 7 ∷ [])
     ∷ []
 unfolding off overlayBelow mapBelow settingsBelow fullSettings runningSettings meaningFrom
 starts-held = refl

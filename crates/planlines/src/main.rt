@@ -8,7 +8,7 @@
 //   field_runs_on.plan  F(3, text, 7FFFFh, step FFFh, map at 7FFF0h, step 10h, fields 17 by 5) R(9) F(12, LR, map) R(1): the field runs on
 //   two_records.plan    F(5, SR, 1000h, step 0) R(4, else the same): nine lines alike but for the record
 //   row_scrolled.plan   F(6, text, 1000h, step A0h, vscroll 3) R(2, vscroll 6): five lines of the first row, and no start at R's vscroll
-//   field_scrolled.plan F(9, HR, 2000h, step 140h, vscroll 3, map at 100h, step 5, vscroll 10, fields 8 by 4) R(4, vscroll 1): from 10 mod 4 on
+//   field_scrolled.plan F(9, HR, 2000h, step 140h, vscroll 3, map at 100h, step 5, vscroll 13, fields 8 by 4) R(4, vscroll 1): from 13 mod 4 on
 //   starts_held.plan    F(2, SR, 5, step 7, vscroll 3, map off, its vscroll 10, fields 8 by 4): both counters hold where they start
 mod number;
 
