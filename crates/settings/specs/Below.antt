@@ -20,8 +20,8 @@ overlayBelow o k =
     (cond (eqb (o .mode) 1) ((k + o .counter) % 8) (o .counter))
     o
 
--- "Map likewise with floor(k/height) and k mod height when on"; A2: "k plus (its map vscroll mod height) for the map", which is where its counter starts;
--- "with the map off" the counter holds that value
+-- "Map likewise with floor(k/height) and k mod height when on, else 0"; A2: "k plus (its map vscroll mod height) for the map", which is where its counter
+-- starts, and "with the map off" the counter holds that value
 unfoldable pub mapBelow : Map → ℕ → Map
 mapBelow p k =
     mapAt
