@@ -135,8 +135,9 @@ enum deskboard_block_byte {
  *   3 hscroll   4 vscroll   5 font   6 text counter
  *   7 map on (0, 1)   8 map address   9 map step   10 map hscroll   11 map vscroll
  *  12 field width    13 field height  14 field counter
- *     The text counter is the line of a character row that is shown, 0 to 7; a record that resets it puts it to vscroll. The field
- *     counter is the line of a map's field, from 0; a record that resets it puts it to map vscroll modulo the field height.
+ *     In text the text counter is the line of the character row that is shown, 0 to 7; a record that resets it (TMON alone, or OVADR)
+ *     puts it to vscroll. With the map on the field counter is the line of a field, from 0; a record that resets it (MAPADR or MAPPAR)
+ *     puts it to map vscroll modulo the field height. Else a counter is held.
  *  15 width          16 overlay palette   17 playfield palette   18 priority
  *  19 record: the address of the record last read for the line, or DESKBOARD_NO_RECORD where none has been read in the frame.
  *     A record's address is that of its first control byte, 0 to 524,287, whatever the length of memory is.

@@ -284,7 +284,7 @@ fn a_reset_puts_a_counter_to_the_scroll_of_its_line() {
         }
     }
     println!(
-        "{scrolled} scrolled starts, {folded} above the height, {kept} scrolls without a start"
+        "{scrolled} scrolled starts, {folded} not below the height, {kept} scrolls without a start"
     );
     assert!(scrolled > 20_000 && folded > 5_000 && kept > 5_000);
 }

@@ -1480,7 +1480,7 @@ worked! {
         let mut rig = Rig::<C>::with_xdl(&[0x28, 4, 2, 0xFF, 0xFF, 3, 0xFF, 0, 2, 1, 0, 0, 0, 0]);
         let words = [at::MAP_HSCROLL, at::MAP_VSCROLL, at::FIELD_WIDTH, at::FIELD_HEIGHT, at::FIELD];
         let lines = rig.some(4, &words);
-        // It starts on a field's last line, and again with the fourth.
+        // It starts on a field's last line, and again on the fourth line.
         assert_eq!(lines[0], [31, 31, 8, 32, 31]);
         assert_eq!(lines[2], [31, 31, 8, 32, 1]);
         assert_eq!(lines[3], [31, 31, 8, 32, 31]);
@@ -1781,7 +1781,7 @@ worked! {
         let words = [at::MODE, at::TEXT, at::VSCROLL];
         let mut rig = Rig::<C>::with_xdl(&[0x81, 0, 0, 3, 0x80, 0x80, 0, 5]);
         assert_eq!(rig.some(3, &words), [[TEXT, 3, 3], [TEXT, 4, 5], [OFF, 5, 5]]);
-        // Text together with off is no reset, and neither is graphics.
+        // Text together with off is no reset, and neither is graphics or off.
         for (first, mode) in [(0x85, OFF), (0x82, SR), (0x84, OFF)] {
             let mut rig = Rig::<C>::with_xdl(&[0x81, 0, 0, 3, first, 0, 0, 5]);
             assert_eq!(rig.some(2, &words), [[TEXT, 3, 3], [mode, 4, 5]]);
@@ -1824,9 +1824,9 @@ worked! {
             0, 2, 0, 0, 0, 0, 0, // MAPADR alone: the same again
             0, 6, 0, 0, 0, 0, 0, 0, 10, 7, 6, // with its own height: 10 mod 7
             0, 4, 0, 14, 7, 6, // MAPPAR alone: 14 mod 7
-            0, 0, // neither
-            0x10, 0, // nor
-            8, 0x80,
+            0, 0, // no data
+            0x10, 0, // the map off
+            8, 0x80, // and on again
         ]);
         assert_eq!(
             rig.some(8, &[at::MAP, at::FIELD]),

@@ -14,14 +14,14 @@ fn shown(title: &[u8], plan: &[u8]) {
 }
 
 // Text at 0, step 160: three lines, then six that run on. The row goes on, and steps after its eighth line; so it does where the
-// vscroll changes.
+// item that runs on has another vscroll.
 fn rows() {
     shown(
         b"text steps every eight lines, and runs on\n",
         b"\x17\0\x01\0\x03\x01\0\0\0\xA0\0\0\0\0\0\0\0\0\0\0\0\0\x08\x08\x01\x01\xFF\x07\0\x02\0\x06\0\0\0\x01\x01\xFF",
     );
     shown(
-        b"a vscroll moves no counter\n",
+        b"a vscroll that runs on moves no counter\n",
         b"\x17\0\x01\0\x03\x01\0\0\0\xA0\0\0\0\0\0\0\0\0\0\0\0\0\x08\x08\x01\x01\xFF\x07\0\x02\0\x06\0\x05\0\x01\x01\xFF",
     );
 }

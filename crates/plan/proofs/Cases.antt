@@ -133,10 +133,11 @@ text = refl
 -- text scrolled by 3: its first row has five lines, and a running-on item's vscroll moves no counter. Beside it a map that is scrolled by 13, in fields of
 -- 4 lines: of the first field three lines are left
 scrolled-text :
-    lines (bandBy 3 13 6 1 4096 160 1 50 4 ∷ onwardBy 6 2 0 1 ∷ []) 7 (0 ∷ 1 ∷ 2 ∷ 4 ∷ 5 ∷ 6 ∷ 7 ∷ 8 ∷ 239 ∷ [])
+    lines (bandBy 3 13 6 1 4096 160 1 50 4 ∷ onwardBy 6 2 0 1 ∷ []) 7 (0 ∷ 1 ∷ 2 ∷ 3 ∷ 4 ∷ 5 ∷ 6 ∷ 7 ∷ 8 ∷ 239 ∷ [])
     ≡ (1 ∷ 4096 ∷ 3 ∷ 0 ∷ 1 ∷ 0 ∷ 1 ∷ 0 ∷ 7 ∷ [])
     ∷ (1 ∷ 4096 ∷ 4 ∷ 0 ∷ 2 ∷ 0 ∷ 1 ∷ 0 ∷ 7 ∷ [])
     ∷ (1 ∷ 4096 ∷ 5 ∷ 0 ∷ 3 ∷ 0 ∷ 1 ∷ 0 ∷ 7 ∷ [])
+    ∷ (1 ∷ 4096 ∷ 6 ∷ 50 ∷ 0 ∷ 0 ∷ 1 ∷ 0 ∷ 7 ∷ [])
     ∷ (1 ∷ 4096 ∷ 7 ∷ 50 ∷ 1 ∷ 0 ∷ 1 ∷ 0 ∷ 7 ∷ [])
     ∷ (1 ∷ 4256 ∷ 0 ∷ 50 ∷ 2 ∷ 0 ∷ 1 ∷ 0 ∷ 7 ∷ [])
     ∷ (1 ∷ 4256 ∷ 1 ∷ 50 ∷ 3 ∷ 0 ∷ 1 ∷ 0 ∷ 29 ∷ [])
@@ -147,12 +148,15 @@ scrolled-text :
 unfolding off overlayBelow mapBelow settingsBelow fullSettings runningSettings meaningFrom
 scrolled-text = refl
 
--- SR scrolled by 3, and a map scrolled by 13 that is off: both counters hold where they start, and the addresses are as ever
+-- an off band scrolled by 5 and SR scrolled by 3, with maps scrolled by 10 and 13 that are off: the counters hold where they start, and the addresses
+-- are as ever
 starts-held :
-    lines (bandBy 3 13 2 2 5 7 0 50 4 ∷ []) 7 (0 ∷ 1 ∷ 2 ∷ [])
-    ≡ (2 ∷ 5 ∷ 3 ∷ 0 ∷ 1 ∷ 0 ∷ 1 ∷ 0 ∷ 7 ∷ [])
-    ∷ (2 ∷ 12 ∷ 3 ∷ 0 ∷ 1 ∷ 0 ∷ 1 ∷ 0 ∷ 7 ∷ [])
-    ∷ (0 ∷ 19 ∷ 3 ∷ 0 ∷ 1 ∷ 0 ∷ 1 ∷ 0 ∷ 7 ∷ [])
+    lines (bandBy 5 10 2 0 9 7 0 50 4 ∷ bandBy 3 13 2 2 5 7 0 50 4 ∷ []) 7 (0 ∷ 1 ∷ 2 ∷ 3 ∷ 4 ∷ [])
+    ≡ (0 ∷ 9 ∷ 5 ∷ 0 ∷ 2 ∷ 0 ∷ 1 ∷ 0 ∷ 7 ∷ [])
+    ∷ (0 ∷ 9 ∷ 5 ∷ 0 ∷ 2 ∷ 0 ∷ 1 ∷ 0 ∷ 7 ∷ [])
+    ∷ (2 ∷ 5 ∷ 3 ∷ 0 ∷ 1 ∷ 0 ∷ 1 ∷ 0 ∷ 29 ∷ [])
+    ∷ (2 ∷ 12 ∷ 3 ∷ 0 ∷ 1 ∷ 0 ∷ 1 ∷ 0 ∷ 29 ∷ [])
+    ∷ (0 ∷ 19 ∷ 3 ∷ 0 ∷ 1 ∷ 0 ∷ 1 ∷ 0 ∷ 29 ∷ [])
     ∷ []
 unfolding off overlayBelow mapBelow settingsBelow fullSettings runningSettings meaningFrom
 starts-held = refl

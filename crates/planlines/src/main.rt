@@ -5,11 +5,14 @@
 // alone. Beside the example plans there are, with F a full band and R a running-on item:
 //   below.plan          F(3, SR, 1000h, step 140h) R(2, hscroll 5, palettes 6): below the plan what is left is held
 //   row_runs_on.plan    F(3, text, 1000h, step A0h) R(6, vscroll 5): the row of text runs on
-//   field_runs_on.plan  F(3, text, 7FFFFh, step FFFh, map at 7FFF0h, step 10h, fields 17 by 5) R(9) F(12, LR, map) R(1): the field runs on
+//   field_runs_on.plan  F(3, text, 7FFFFh, step FFFh, vscroll 2, map at 7FFF0h, step 10h, vscroll 30, fields 17 by 5) R(9, vscroll 6)
+//                       F(12, LR, map) R(1, vscroll 3): the field runs on
 //   two_records.plan    F(5, SR, 1000h, step 0) R(4, else the same): nine lines alike but for the record
 //   row_scrolled.plan   F(6, text, 1000h, step A0h, vscroll 3) R(2, vscroll 6): five lines of the first row, and no start at R's vscroll
-//   field_scrolled.plan F(9, HR, 2000h, step 140h, vscroll 3, map at 100h, step 5, vscroll 13, fields 8 by 4) R(4, vscroll 1): from 13 mod 4 on
-//   starts_held.plan    F(2, SR, 5, step 7, vscroll 3, map off, its vscroll 10, fields 8 by 4): both counters hold where they start
+//   field_scrolled.plan F(9, HR, 2000h, step 140h, vscroll 3, map at 100h, step 5, vscroll 13, fields 8 by 4) R(4, vscroll 1): the field
+//                       counter starts at 13 mod 4
+//   starts_held.plan    F(3, off, 9, step 7, vscroll 5, map off, its vscroll 9, fields 8 by 4) F(2, SR, 5, step 7, vscroll 3, map off, its
+//                       vscroll 10, fields 8 by 4): the counters hold where they start
 mod number;
 
 use boardtext::lines;

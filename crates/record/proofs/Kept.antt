@@ -1,4 +1,5 @@
--- What the data of a record leave as it is: the origin, which is where the record begins, and both counters, which are put behind all data. Assumes nothing.
+-- What the data of a record leave as it is: the origin, which is where the record begins, and both counters, which are reset once all data are read.
+-- Assumes nothing.
 use mathlib.Core.Path.{_≡_, refl, ap, _∙_}
 use mathlib.Core.List.{List}
 use Prim.Native.Nat.{ℕ}

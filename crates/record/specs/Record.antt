@@ -1,4 +1,4 @@
--- Document 01, "The XDL and its 240 lines", and document 02, A1 and A2: "A record is two control bytes, then data in the manual's fetch order". c and d are
+-- Document 01, "The XDL and its 240 lines": "A record is two control bytes, then data in the manual's fetch order"; with document 02, A1 and A2. c and d are
 -- the control bytes.
 use mathlib.Core.Bool.{Bool, cond, _||_}
 use mathlib.Core.List.{List}

@@ -115,7 +115,7 @@ fn field_start(vscroll: u8, height: u8) -> u8
     vscroll % height
 }
 
-// A counter of the next line: from its start again, or as it is.
+// A counter of the record's line: from its start again, or as it is.
 fn counter_of(again: bool, start: u8, counter: u8) -> u8
     ensures { λ r. ⌜ r ≡ cond again start counter ⌝ }
 {
@@ -255,7 +255,7 @@ impl Reader {
         }
     }
 
-    // The counters start again after all data are read, so with the scrolls of this record.
+    // The counters start again after all data are read, so at the scrolls as they are then: this record's, or those held.
     fn restart(mut self, c: u8, d: u8) -> Self
         ensures { λ r. ⌜ r ≡ restarted c d self ⌝ }
     {

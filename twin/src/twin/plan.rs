@@ -324,7 +324,7 @@ fn line_of(band: &FullBody, below: u32, look: Look, origin: u32) -> Settings {
     let mode = Mode::from_number(band[full::MODE].into()).expect("the mode is in range");
     let map = band[full::MAP] == 1;
     let field_height = band[full::FIELD_HEIGHT];
-    // The counters start at the full band's own scrolls; that of an item that runs on doesn't move them.
+    // The counters start at the full band's own scrolls; those of an item that runs on don't move them.
     let start = u32::from(band[full::VSCROLL]);
     let (overlay_steps, text_counter) = match mode {
         Mode::Off => (0, start),
