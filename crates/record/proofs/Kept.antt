@@ -69,22 +69,21 @@ module _ (mem : List ℕ) (r : Reader) where
   abbrev d : ℕ
   d = byteAt mem (r .position) 1
 
-  data-keep : keptIn (fetchedBy mem c d (controlled c d r)) ≡ record { origin = r .position; text = r .settings .overlay .counter; field = r .settings .map .counter }
-  unfolding controlled
+  data-keep : keptIn (fetchedBy mem c d (controlled c d r)) ≡ keptIn (controlled c d r)
   data-keep = fetched-keeps mem c d (controlled c d r)
 
   pub record-origin : originIn (recordOf mem r) ≡ r .position
-  unfolding restarted
+  unfolding restarted controlled
   record-origin = ap (λ (k : Kept). k .origin) data-keep
 
 pub text-counter : TextCounter
-unfolding restarted
+unfolding restarted controlled
 text-counter mem r =
     let o = r .settings .overlay in
     ap (λ (k : Kept). textCounter (c mem r) (overlayAt (o .address) (k .text) o) (recordOf mem r .settings .overlay)) (data-keep mem r)
 
 pub field-counter : FieldCounter
-unfolding restarted
+unfolding restarted controlled
 field-counter mem r =
     let p = r .settings .map in
     ap (λ (k : Kept). fieldCounter (d mem r) (mapAt (p .address) (k .field) p) (recordOf mem r .settings .map)) (data-keep mem r)

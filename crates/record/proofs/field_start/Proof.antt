@@ -1,5 +1,5 @@
 -- `record::field_start` meets its contract: a remainder by 0 is the number itself. Assumes nothing.
-use mathlib.Core.Path.{_≡_, sym, ap, _∙_}
+use mathlib.Core.Path.{sym, ap, _∙_}
 use Prim.Native.Nat.{ℕ, _%_}
 use native.Mathlib.Nat.{mod-zero}
 use borrow.Author.Needs.{needs}
