@@ -1,7 +1,8 @@
 // A board as words, and back.
 ghost use mathlib.Core.Path.{_≡_};
-ghost use Prim.Native.Nat.{_≤_};
-ghost use Rattle.words.specs.Words.{laid};
+ghost use Prim.Native.Nat.{_≤_, _<_};
+ghost use lib.ListN.{length};
+ghost use Rattle.words.specs.Words.{byteIn, halfIn, laid};
 ghost use Rattle.boardwords.specs.Board.{portsOf, sideOf, blockOf, blitterOf, boardOf, sideWords, blockWords, boardWords, boardFits};
 use blitter::Blitter;
 use block::Block;
@@ -10,22 +11,34 @@ use board::Board;
 use board::Ports;
 use step::Side;
 use words::all_within;
-use words::byte;
-use words::half;
 use words::lay;
-use words::switch;
-use words::word;
 
 // The words of a board.
 pub const BOARD_WORDS: usize = 35;
 
+// A word as a byte, and as 16 bits.
+fn byte(words: &[u32], k: usize) -> u8
+    requires { ⌜ k < length (now words) ⌝ }
+    ensures { λ r. ⌜ r ≡ byteIn (now (words .entry)) k ⌝ }
+{
+    (words[k] % 256) as u8
+}
+
+fn half(words: &[u32], k: usize) -> u16
+    requires { ⌜ k < length (now words) ⌝ }
+    ensures { λ r. ⌜ r ≡ halfIn (now (words .entry)) k ⌝ }
+{
+    (words[k] % 65536) as u16
+}
+
 fn ports_of(words: &[u32]) -> Ports
+    requires { ⌜ 35 ≤ length (now words) ⌝ }
     ensures { λ r. ⌜ r ≡ portsOf (now (words .entry)) ⌝ }
 {
     Ports {
         video: byte(words, 0),
-        xdladr: word(words, 1),
-        bladr: word(words, 2),
+        xdladr: words[1],
+        bladr: words[2],
         p0: byte(words, 3),
         p1: byte(words, 4),
         p2: byte(words, 5),
@@ -35,7 +48,7 @@ fn ports_of(words: &[u32]) -> Ports
 
 // The six bytes of a side from place k on.
 fn side_of(words: &[u32], k: usize) -> Side
-    requires { ⌜ k ≤ 18 ⌝ }
+    requires { ⌜ (35 ≤ length (now words)) × (k ≤ 18) ⌝ }
     ensures { λ r. ⌜ r ≡ sideOf (now (words .entry)) k ⌝ }
 {
     Side {
@@ -49,6 +62,7 @@ fn side_of(words: &[u32], k: usize) -> Side
 }
 
 fn block_of(words: &[u32]) -> Block
+    requires { ⌜ 35 ≤ length (now words) ⌝ }
     ensures { λ r. ⌜ r ≡ blockOf (now (words .entry)) ⌝ }
 {
     let source = side_of(words, 12);
@@ -69,6 +83,7 @@ fn block_of(words: &[u32]) -> Block
 }
 
 fn blitter_of(words: &[u32]) -> Blitter
+    requires { ⌜ 35 ≤ length (now words) ⌝ }
     ensures { λ r. ⌜ r ≡ blitterOf (now (words .entry)) ⌝ }
 {
     let block = block_of(words);
@@ -76,9 +91,9 @@ fn blitter_of(words: &[u32]) -> Blitter
         code: byte(words, 11),
     };
     Blitter {
-        irqe: switch(words, 7),
-        irqf: switch(words, 8),
-        list: word(words, 9),
+        irqe: words[7] == 1,
+        irqf: words[8] == 1,
+        list: words[9],
         flags: byte(words, 10),
         note,
         block,
@@ -87,8 +102,8 @@ fn blitter_of(words: &[u32]) -> Blitter
     }
 }
 
-// The board that the words say. Of words that fit, every word counts.
-pub fn board_of(words: &[u32]) -> Board
+fn read_board(words: &[u32]) -> Board
+    requires { ⌜ 35 ≤ length (now words) ⌝ }
     ensures { λ r. ⌜ r ≡ boardOf (now (words .entry)) ⌝ }
 {
     let ports = ports_of(words);
@@ -96,29 +111,33 @@ pub fn board_of(words: &[u32]) -> Board
     Board { ports, blitter }
 }
 
+// The board that the words say. Of words that fit, every word counts.
+// Words that are missing are 0: they are filled up first, so that a word that is read needs no test (docs/SPEED.md).
+pub fn board_of(words: &[u32]) -> Board
+    ensures { λ r. ⌜ r ≡ boardOf (now (words .entry)) ⌝ }
+{
+    if words.len() < BOARD_WORDS {
+        let mut whole = [0; BOARD_WORDS];
+        lay(&mut whole, words);
+        return read_board(&whole);
+    }
+    read_board(words)
+}
+
 // Whether each word of a board is within its field's type.
 pub fn board_fits(words: &[u32]) -> bool
     ensures { λ r. ⌜ r ≡ boardFits (now (words .entry)) ⌝ }
 {
-    let registers = [
-        255,
-        4294967295,
-        4294967295,
-        255,
-        255,
-        255,
-        255,
-        1,
-        1,
-        4294967295,
-        255,
-        255,
-    ];
-    let block = [255; 21];
-    let position = [65535, 65535];
-    all_within(words, 0, &registers)
-        & all_within(words, 12, &block)
-        & all_within(words, 33, &position)
+    // a byte, but for these
+    let mut most = [255; BOARD_WORDS];
+    most[1] = 4294967295;
+    most[2] = 4294967295;
+    most[7] = 1;
+    most[8] = 1;
+    most[9] = 4294967295;
+    most[33] = 65535;
+    most[34] = 65535;
+    all_within(words, 0, &most)
 }
 
 fn put_side(words: &mut [u32], side: Side)

@@ -1,6 +1,8 @@
 // A line's settings and a frame as words, and back.
 ghost use mathlib.Core.Path.{_≡_};
-ghost use Rattle.words.specs.Words.{laid};
+ghost use Prim.Native.Nat.{_≤_, _<_};
+ghost use lib.ListN.{length};
+ghost use Rattle.words.specs.Words.{byteIn, halfIn, laid};
 ghost use Rattle.framewords.specs.Frame.{overlayOf, mapOf, lookOf, settingsOf, settingsWords, frameOf, frameWords, frameFits};
 use frame::Frame;
 use record::Reader;
@@ -9,23 +11,35 @@ use settings::Map;
 use settings::Overlay;
 use settings::Settings;
 use words::all_within;
-use words::byte;
-use words::half;
 use words::lay;
-use words::switch;
-use words::word;
 
 // The words of a line's settings, and of a frame.
 pub const SETTINGS_WORDS: usize = 20;
 
 pub const FRAME_WORDS: usize = 25;
 
+// A word as a byte, and as 16 bits.
+fn byte(words: &[u32], k: usize) -> u8
+    requires { ⌜ k < length (now words) ⌝ }
+    ensures { λ r. ⌜ r ≡ byteIn (now (words .entry)) k ⌝ }
+{
+    (words[k] % 256) as u8
+}
+
+fn half(words: &[u32], k: usize) -> u16
+    requires { ⌜ k < length (now words) ⌝ }
+    ensures { λ r. ⌜ r ≡ halfIn (now (words .entry)) k ⌝ }
+{
+    (words[k] % 65536) as u16
+}
+
 fn overlay_of(words: &[u32]) -> Overlay
+    requires { ⌜ 20 ≤ length (now words) ⌝ }
     ensures { λ r. ⌜ r ≡ overlayOf (now (words .entry)) ⌝ }
 {
     Overlay {
         mode: byte(words, 0),
-        address: word(words, 1),
+        address: words[1],
         step: half(words, 2),
         hscroll: byte(words, 3),
         vscroll: byte(words, 4),
@@ -35,11 +49,12 @@ fn overlay_of(words: &[u32]) -> Overlay
 }
 
 fn map_of(words: &[u32]) -> Map
+    requires { ⌜ 20 ≤ length (now words) ⌝ }
     ensures { λ r. ⌜ r ≡ mapOf (now (words .entry)) ⌝ }
 {
     Map {
-        on: switch(words, 7),
-        address: word(words, 8),
+        on: words[7] == 1,
+        address: words[8],
         step: half(words, 9),
         hscroll: byte(words, 10),
         vscroll: byte(words, 11),
@@ -50,6 +65,7 @@ fn map_of(words: &[u32]) -> Map
 }
 
 fn look_of(words: &[u32]) -> Look
+    requires { ⌜ 20 ≤ length (now words) ⌝ }
     ensures { λ r. ⌜ r ≡ lookOf (now (words .entry)) ⌝ }
 {
     Look {
@@ -61,6 +77,7 @@ fn look_of(words: &[u32]) -> Look
 }
 
 fn settings_of(words: &[u32]) -> Settings
+    requires { ⌜ 20 ≤ length (now words) ⌝ }
     ensures { λ r. ⌜ r ≡ settingsOf (now (words .entry)) ⌝ }
 {
     let overlay = overlay_of(words);
@@ -70,7 +87,7 @@ fn settings_of(words: &[u32]) -> Settings
         overlay,
         map,
         look,
-        origin: word(words, 19),
+        origin: words[19],
     }
 }
 
@@ -106,22 +123,35 @@ pub fn put_settings(words: &mut [u32], settings: Settings)
     lay(words, &new);
 }
 
-// The frame that the words say. Of words that fit, every word counts.
-pub fn frame_of(words: &[u32]) -> Frame
+fn read_frame(words: &[u32]) -> Frame
+    requires { ⌜ 25 ≤ length (now words) ⌝ }
     ensures { λ r. ⌜ r ≡ frameOf (now (words .entry)) ⌝ }
 {
     let settings = settings_of(words);
     let reader = Reader {
         settings,
-        position: word(words, 20),
+        position: words[20],
         repeat: byte(words, 21),
-        ended: switch(words, 23),
+        ended: words[23] == 1,
     };
     Frame {
         reader,
         line: half(words, 22),
-        on: switch(words, 24),
+        on: words[24] == 1,
     }
+}
+
+// The frame that the words say. Of words that fit, every word counts.
+// Words that are missing are 0: they are filled up first, so that a word that is read needs no test (docs/SPEED.md).
+pub fn frame_of(words: &[u32]) -> Frame
+    ensures { λ r. ⌜ r ≡ frameOf (now (words .entry)) ⌝ }
+{
+    if words.len() < FRAME_WORDS {
+        let mut whole = [0; FRAME_WORDS];
+        lay(&mut whole, words);
+        return read_frame(&whole);
+    }
+    read_frame(words)
 }
 
 // Whether each word of a frame is within its field's type.

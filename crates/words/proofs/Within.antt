@@ -1,13 +1,13 @@
--- Words within a table: one word more, two tables, and what is known of each word. Assumes nothing.
+-- Words within a table: one word more, none past the end, two tables, and what is known of each word. Assumes nothing.
 use mathlib.Core.Path.{_≡_, refl, sym, ap, _∙_, subst}
 use mathlib.Core.Bool.{Bool, true, false, _&&_}
 use mathlib.Core.List.{List, [], _∷_, _++_}
-use Prim.Native.Nat.{ℕ, zero, suc, _+_, _≤_, _<_}
+use Prim.Native.Nat.{ℕ, zero, suc, _+_, _-_, _≤_, _<_, min}
 use native.Mathlib.Nat.{mod-eq-of-lt, not-suc-le-zero, zero-add, add-zero}
 use native.Mathlib.Numerals.{add-one}
 use native.Mathlib.Omega.{arith}
-use lib.Dec.{eqb, leb}
-use lib.ListN.{length, drop, getD, drop-of-length-le}
+use lib.Dec.{eqb, leb, leb·zero}
+use lib.ListN.{length, drop, getD, List·getD-eq-default}
 use lib.Seq.{drop-cons}
 use borrow.Author.Tests.{leb-true}
 use Rattle.laws.proofs.Choice.{both}
@@ -24,27 +24,43 @@ and-true false = refl
 next : (k n : ℕ) → k + 1 + n ≡ k + suc n
 next k n = omega arith
 
--- a loop has tested i words, from `from` on, and is at word `at`: the tests so far with those left give what the whole was to give
-module _ (all : Bool) (most words : List ℕ) (from i at : ℕ) (so-far : all && within (drop i most) words at ≡ within most words from) where
-  -- the word here is w
+-- past the end there are zeros, and these are within every limit
+pub within-past : (most words : List ℕ) (k : ℕ) → length words ≤ k → within most words k ≡ true
+unfolding within
+within-past [] words k h = refl
+within-past (m ∷ more) words k h =
+    ap (λ (w : ℕ). leb w m && within more words (k + 1)) (List·getD-eq-default words 0 h)
+    ∙ ap (λ (t : Bool). t && within more words (k + 1)) (leb·zero m)
+    ∙ within-past more words (k + 1) (omega arith)
+
+-- so where the limits or the words are at an end, the rest is within
+within-rest : (most words : List ℕ) (k i : ℕ) → min (length words - k) (length most) ≤ i → within (drop i most) words (k + i) ≡ true
+unfolding within
+within-rest [] words k zero h = refl
+within-rest [] words k (suc i) h = refl
+within-rest (m ∷ more) words k zero h = within-past (m ∷ more) words (k + 0) (omega arith)
+within-rest (m ∷ more) words k (suc i) h =
+    ap (within (drop i more) words) (sym (next k i)) ∙ within-rest more words (k + 1) i (omega arith)
+
+-- a loop has tested i words, from `from` on: the tests so far with those left give what the whole was to give
+module _ (all : Bool) (most words : List ℕ) (from i : ℕ) (so-far : all && within (drop i most) words (from + i) ≡ within most words from) where
   pub within-turn :
-      (w : ℕ) → w ≡ wordAt words at → i < length most
-      → (all && leb w (getD most i 0)) && within (drop (i + 1) most) words (at + 1) ≡ within most words from
+      i < length most
+      → (all && leb (wordAt words (from + i)) (getD most i 0)) && within (drop (i + 1) most) words (from + (i + 1)) ≡ within most words from
   unfolding within
-  within-turn w e h =
-      ap (λ (x : ℕ). (all && leb x (getD most i 0)) && within (drop (i + 1) most) words (at + 1)) e
-      ∙ ap (λ (n : ℕ). (all && leb (wordAt words at) (getD most i 0)) && within (drop n most) words (at + 1)) (add-one i)
-      ∙ and-assoc all (leb (wordAt words at) (getD most i 0)) (within (drop (suc i) most) words (at + 1))
-      ∙ sym (ap (λ (l : List ℕ). all && within l words at) (drop-cons most i 0 h))
+  within-turn h =
+      let here : Bool = leb (wordAt words (from + i)) (getD most i 0) in
+      ap (λ (n : ℕ). (all && here) && within (drop n most) words (from + n)) (add-one i)
+      ∙ ap (λ (n : ℕ). (all && here) && within (drop (suc i) most) words n) (omega arith)
+      ∙ and-assoc all here (within (drop (suc i) most) words (from + i + 1))
+      ∙ sym (ap (λ (l : List ℕ). all && within l words (from + i)) (drop-cons most i 0 h))
       ∙ so-far
 
-  pub within-end : length most ≤ i → all ≡ within most words from
-  unfolding within
-  within-end h =
-      sym (ap (λ (l : List ℕ). all && within l words at) (drop-of-length-le most h) ∙ and-true all) ∙ so-far
+  pub within-end : min (length words - from) (length most) ≤ i → all ≡ within most words from
+  within-end h = sym (ap (λ (t : Bool). all && t) (within-rest most words from i h) ∙ and-true all) ∙ so-far
 
 -- two tables are tested one after the other
-pub within-append : (most more words : List ℕ) (k : ℕ) → within (most ++ more) words k ≡ within most words k && within more words (k + length most)
+within-append : (most more words : List ℕ) (k : ℕ) → within (most ++ more) words k ≡ within most words k && within more words (k + length most)
 unfolding within
 within-append [] more words k = ap (within more words) (sym (add-zero k))
 within-append (m ∷ most) more words k =
@@ -52,7 +68,7 @@ within-append (m ∷ most) more words k =
     ∙ sym (and-assoc (leb (wordAt words k) m) (within most words (k + 1)) (within more words (k + suc (length most))))
 
 -- each word is at most its limit
-pub within-at : (most words : List ℕ) (k i : ℕ) → within most words k ≡ true → i < length most → wordAt words (k + i) ≤ getD most i 0
+within-at : (most words : List ℕ) (k i : ℕ) → within most words k ≡ true → i < length most → wordAt words (k + i) ≤ getD most i 0
 unfolding within
 within-at [] words k i e h = absurd (not-suc-le-zero h)
 within-at (m ∷ more) words k zero e h =

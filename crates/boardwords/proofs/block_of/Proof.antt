@@ -11,31 +11,31 @@ side-of-requires-2 : tie.Need-side-of-requires-2
 side-of-requires-2 c κs = search needs
 
 byte-requires : tie.Need-byte-requires
-byte-requires c κs = tt
+byte-requires c κs = search needs
 
 byte-requires-2 : tie.Need-byte-requires-2
-byte-requires-2 c κs = tt
+byte-requires-2 c κs = search needs
 
 byte-requires-3 : tie.Need-byte-requires-3
-byte-requires-3 c κs = tt
+byte-requires-3 c κs = search needs
 
 byte-requires-4 : tie.Need-byte-requires-4
-byte-requires-4 c κs = tt
+byte-requires-4 c κs = search needs
 
 byte-requires-5 : tie.Need-byte-requires-5
-byte-requires-5 c κs = tt
+byte-requires-5 c κs = search needs
 
 byte-requires-6 : tie.Need-byte-requires-6
-byte-requires-6 c κs = tt
+byte-requires-6 c κs = search needs
 
 byte-requires-7 : tie.Need-byte-requires-7
-byte-requires-7 c κs = tt
+byte-requires-7 c κs = search needs
 
 byte-requires-8 : tie.Need-byte-requires-8
-byte-requires-8 c κs = tt
+byte-requires-8 c κs = search needs
 
 byte-requires-9 : tie.Need-byte-requires-9
-byte-requires-9 c κs = tt
+byte-requires-9 c κs = search needs
 
 returns : tie.Need-returns
 unfolding blockOf

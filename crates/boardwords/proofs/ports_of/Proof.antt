@@ -1,28 +1,29 @@
 -- `boardwords::ports_of` meets its contract: each field from its word. Assumes nothing.
 use Rattle.boardwords.specs.Board.{portsOf}
+use borrow.Author.Needs.{needs}
 use Rattle.boardwords.proofs.ports_of.Statement.{statement}
 use Rattle.boardwords.proofs.ports_of.Tie as tie
 
 byte-requires : tie.Need-byte-requires
-byte-requires c κs = tt
+byte-requires c κs = search needs
 
-word-requires : tie.Need-word-requires
-word-requires c κs = tt
+shared-slice-read-t4 : tie.Need-shared-slice-read-t4
+shared-slice-read-t4 c = search needs
 
-word-requires-2 : tie.Need-word-requires-2
-word-requires-2 c κs = tt
+shared-slice-read-t6 : tie.Need-shared-slice-read-t6
+shared-slice-read-t6 c = search needs
 
 byte-requires-2 : tie.Need-byte-requires-2
-byte-requires-2 c κs = tt
+byte-requires-2 c κs = search needs
 
 byte-requires-3 : tie.Need-byte-requires-3
-byte-requires-3 c κs = tt
+byte-requires-3 c κs = search needs
 
 byte-requires-4 : tie.Need-byte-requires-4
-byte-requires-4 c κs = tt
+byte-requires-4 c κs = search needs
 
 byte-requires-5 : tie.Need-byte-requires-5
-byte-requires-5 c κs = tt
+byte-requires-5 c κs = search needs
 
 returns : tie.Need-returns
 unfolding portsOf
@@ -33,8 +34,8 @@ ports-of-spec =
     tie.close
     (tie.spec
     byte-requires
-    word-requires
-    word-requires-2
+    shared-slice-read-t4
+    shared-slice-read-t6
     byte-requires-2
     byte-requires-3
     byte-requires-4

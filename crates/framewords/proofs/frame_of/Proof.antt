@@ -1,49 +1,44 @@
--- `framewords::frame_of` meets its contract: each field from its word. Assumes nothing.
+-- `framewords::frame_of` meets its contract: words that are missing are 0. Assumes nothing.
+use mathlib.Core.Path.{_∙_, ap}
+use native.Mathlib.Omega.{arith}
+use Rattle.words.proofs.Filled.{filled-at}
 use Rattle.framewords.specs.Frame.{frameOf}
+use Rattle.framewords.proofs.Same.{frame-same}
+use borrow.Author.Needs.{needs}
 use Rattle.framewords.proofs.frame_of.Statement.{statement}
 use Rattle.framewords.proofs.frame_of.Tie as tie
 
-settings-of-requires : tie.Need-settings-of-requires
-settings-of-requires c κs = tt
+slice-aggregate-lay : tie.Need-slice-aggregate-lay
+slice-aggregate-lay c = search needs
 
-word-requires : tie.Need-word-requires
-word-requires c κs = tt
+lay-requires : tie.Need-lay-requires
+lay-requires c κs = search needs
 
-byte-requires : tie.Need-byte-requires
-byte-requires c κs = tt
+slice-aggregate-read-frame : tie.Need-slice-aggregate-read-frame
+slice-aggregate-read-frame c = search needs
 
-half-requires : tie.Need-half-requires
-half-requires c κs = tt
-
-switch-requires : tie.Need-switch-requires
-switch-requires c κs = tt
-
-switch-requires-2 : tie.Need-switch-requires-2
-switch-requires-2 c κs = tt
+read-frame-requires : tie.Need-read-frame-requires
+read-frame-requires c κs = search needs
 
 returns : tie.Need-returns
-unfolding frameOf
 returns c =
-    λ i.
-    record {
-      reader = record {
-        settings = c .before .before .before .before .before .settings-of .ensures i;
-        position = c .before .before .before .before .word .ensures i;
-        repeat = c .before .before .before .byte .ensures i;
-        ended = c .before .before .switch .ensures i;
-      };
-      line = c .before .half .ensures i;
-      on = c .switch2 .ensures i;
-    }
+    let words = c .before .before .before .before .before .before .before .args .words .now in
+    c .read-frame .ensures ∙ ap frameOf (c .before .before .before .lay .ensures) ∙ frame-same _ words (filled-at words 25 (omega arith))
+
+read-frame-requires-2 : tie.Need-read-frame-requires-2
+read-frame-requires-2 c κs = search needs
+
+returns-2 : tie.Need-returns-2
+returns-2 c = search needs
 
 pub frame-of-spec : {M : Type 1} → statement M
 frame-of-spec =
     tie.close
     (tie.spec
-    settings-of-requires
-    word-requires
-    byte-requires
-    switch-requires
-    half-requires
-    switch-requires-2
-    returns)
+    slice-aggregate-lay
+    lay-requires
+    slice-aggregate-read-frame
+    read-frame-requires
+    returns
+    read-frame-requires-2
+    returns-2)
