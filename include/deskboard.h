@@ -3,26 +3,27 @@
  * Every call returns 0 where it was done, else the number of its refusal plus 256 times the item. The numbers are those
  * of the refusal sheet (docs/HELP.md), enum deskboard_refusal. Only deskboard_compile has an item other than 0. The number
  * is `answer & 255`, the item `answer >> 8`. A refused call changes nothing that was lent to it: no byte of memory or output,
- * no word of a state, no word of a report. Each call below lists its refusals in the order in which they are tested.
+ * no entry of a line, no word of a state, no word of a report. Each call below lists its refusals in the order in which they are tested.
  *
  * States are lent as words, one 32-bit word a field, in the order of the enums below. A longer buffer will do: words past
  * the last stay as they are. A state's buffer that is shorter than the state is refusal 15, also where it is only written to. A
  * word that is out of its field's type (a byte above 255, a switch that is neither 0 nor 1, a 16-bit field above 65,535)
- * makes the state unsound: refusal 15 as well. A report or settings buffer that is too short is refusal 13, tested last.
+ * makes the state unsound: refusal 15 as well. A report that is too short is refusal 13, tested last; so are settings that a call
+ * writes to.
  * "At least" below says the shortest buffers with which a call is not refused for their length.
  *
  * Later change requests may add words to a board, a frame or a line's settings, and refusals to the sheet. A word may then
  * have another place. So name words and sizes by the enums and macros below, never by a number of your own, and compile
  * again with the header that stands beside the archive.
  *
- * The caller answers for what is lent: a buffer has as many words or bytes as its length says, words are aligned, and buffers
- * that are lent to one call must not overlap. A length counts words of a buffer of words, and bytes of a buffer of bytes. Null
+ * The caller answers for what is lent: a buffer has as many words or bytes as its length says, words and pixels are aligned, and buffers
+ * that are lent to one call must not overlap. A length counts words of a buffer of words, entries of a line, and bytes of a buffer of bytes. Null
  * with length 0 is an empty buffer; nothing is read or written through it. A call keeps no pointer and has no state of its
  * own. So calls can run in several threads at once, each on its own buffers; what a call only reads (const) may be shared.
  *
  * Link with the archive that `tools/archive` writes: target/archive/libcapi.a. It is for the machine that it was built on.
- * (`rt staticlib capi` writes one for x86-64 Linux, target/staticlib/libcapi.a, on any machine.) It asks for one symbol, memset,
- * which a C library has; a program without one must bring its own. examples/c has a program.
+ * (`rt staticlib capi` writes one for x86-64 Linux, target/staticlib/libcapi.a, on any machine.) It asks for two symbols, memset
+ * and memcpy, which a C library has; a program without one must bring its own. examples/c has a program.
  */
 #ifndef DESKBOARD_H
 #define DESKBOARD_H
@@ -41,7 +42,7 @@ extern "C" {
 /* An array and its length, as the calls take them: deskboard_new(DESKBOARD_LENT(board)). It is for arrays, not for pointers. */
 #define DESKBOARD_LENT(array) (array), sizeof(array) / sizeof((array)[0])
 
-/* The refusal sheet. Number 12 is unused. */
+/* The refusal sheet. Numbers 12 and 16 are unused. */
 enum deskboard_refusal {
     DESKBOARD_DONE = 0,
     DESKBOARD_REFUSED_BOARD = 1,      /* memory has none of the six lengths */
@@ -55,9 +56,10 @@ enum deskboard_refusal {
     DESKBOARD_REFUSED_FIELD = 9,      /* a field of an item is out of its range */
     DESKBOARD_REFUSED_FIRST = 10,     /* the first item is a running-on one */
     DESKBOARD_REFUSED_LINES = 11,     /* more than 240 lines */
-    DESKBOARD_REFUSED_ROOM = 13,      /* an output, report or settings buffer too short, or too many bytes to install */
+    DESKBOARD_REFUSED_ROOM = 13,      /* an output or a report too short, or settings that are written to; or too many bytes to install */
     DESKBOARD_REFUSED_ADDRESS = 14,   /* an address above 524,287 */
-    DESKBOARD_REFUSED_STATE = 15      /* an unsound board or frame, or a buffer too short for it */
+    DESKBOARD_REFUSED_STATE = 15,     /* unsound: a board, a frame or settings that are read; or a buffer too short for it */
+    DESKBOARD_REFUSED_SHORT = 17      /* a lent line with fewer entries than the drawn line has pixels */
 };
 
 /* The six lengths that video memory may have, in bytes. */
@@ -191,7 +193,7 @@ enum deskboard_frame_word {
 /* The registers, by their offsets. What is written and what is read at one offset has its own name. Writes to other offsets
  * from 0x40 to 0x5F do nothing; reads of others give 255, but for 0x4A, 0x5E and 0x5F, which give 0. */
 enum deskboard_register {
-    DESKBOARD_WRITE_VIDEO_CONTROL = 0x40, /* bit 0: the display list is switched on */
+    DESKBOARD_WRITE_VIDEO_CONTROL = 0x40, /* the bits of enum deskboard_video */
     DESKBOARD_WRITE_XDL_ADR0 = 0x41,      /* low byte first */
     DESKBOARD_WRITE_XDL_ADR1 = 0x42,
     DESKBOARD_WRITE_XDL_ADR2 = 0x43,
@@ -211,14 +213,26 @@ enum deskboard_register {
     DESKBOARD_READ_IRQ_STATUS = 0x54    /* IRQF */
 };
 
-/* The words of a report: of a read, of a tick or a run, and of a compile. */
+/* The bits of VIDEO_CONTROL: the display list is switched on; no overlay colour is transparent; colours 15, 31, .. 255 are transparent
+ * too, unless no_trans is set. Bit 1, xcolor, does nothing here. */
+enum deskboard_video { DESKBOARD_XDL_ENABLED = 1, DESKBOARD_NO_TRANS = 4, DESKBOARD_TRANS15 = 8 };
+
+/* The pixels of a drawn line, by mode and width (narrow, normal, wide): SR 256, 320, 336; LR 128, 160, 168; HR and text 512, 640, 672; off
+ * none. A line of DESKBOARD_LINE_PIXELS entries has room for each. A pixel is the overlay palette times 256 plus the colour, or
+ * DESKBOARD_TRANSPARENT. */
+#define DESKBOARD_LINE_PIXELS 672u
+#define DESKBOARD_TRANSPARENT 65535u
+
+/* The words of a report: of a read, of a tick or a run, of a drawing, and of a compile. */
 #define DESKBOARD_READ_WORDS 1u
 #define DESKBOARD_RUN_WORDS 2u
+#define DESKBOARD_DRAW_WORDS 1u
 #define DESKBOARD_COMPILE_WORDS 1u
 enum deskboard_report_word {
     DESKBOARD_REPORT_VALUE = 0,    /* of a read */
     DESKBOARD_REPORT_TICKS = 0,    /* of a tick or a run */
     DESKBOARD_REPORT_ACCESSES = 1, /* of a tick or a run */
+    DESKBOARD_REPORT_PIXELS = 0,   /* of a drawing */
     DESKBOARD_REPORT_BYTES = 0     /* of a compile */
 };
 
@@ -249,6 +263,14 @@ uint32_t deskboard_start(const uint32_t *board, size_t board_len, uint32_t *fram
 /* The next line: refusals 1, 15, 4, 13. The frame goes on, and the line's settings go to settings[0..19]. At least 25 words of
  * a frame and 20 of settings, and memory of one of the six lengths. */
 uint32_t deskboard_next_line(uint32_t *frame, size_t frame_len, const uint8_t *mem, size_t mem_len, uint32_t *settings, size_t settings_len);
+
+/* Draws a line: refusals 1, 15, 17, 13. The number of pixels goes to report[0], the pixels to line[0..], leftmost first; entries past
+ * them stay. The settings are those of deskboard_next_line, or your own. They are tested as a state: 15 where they are unsound, also in a
+ * word of the map, though the map is not drawn. Of the board no_trans and trans15 count, as they are now; the list need not be switched on. At least 35
+ * words of a board and 20 of settings, memory of one of the six lengths, a line of as many entries as it has pixels, and a report of 1.
+ * In text the line's font line is the text counter; hscroll shifts text alone, by 0 to 7 pixels to the left, and then one character more is shown. */
+uint32_t deskboard_draw(const uint32_t *board, size_t board_len, const uint32_t *settings, size_t settings_len, const uint8_t *mem, size_t mem_len,
+                        uint16_t *line, size_t line_len, uint32_t *report, size_t report_len);
 
 /* Compiles a plan: refusals 6, 5, 7 to 11, 13. The number of bytes goes to report[0]. 5 and 7 to 11 come with the
  * item's number from 0; of these the order is item by item, as on the sheet. At least a report of 1, and an output of as many

@@ -1,4 +1,5 @@
 -- Laws of the calls.
 mod Told
 mod Passed
+mod Drawn
 mod Once

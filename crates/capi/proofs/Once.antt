@@ -18,6 +18,8 @@ use Rattle.capi.proofs.deskboard_start.Kinds as deskboard-start-kinds
 use Rattle.capi.proofs.deskboard_start.Reads as deskboard-start
 use Rattle.capi.proofs.deskboard_next_line.Kinds as deskboard-next-line-kinds
 use Rattle.capi.proofs.deskboard_next_line.Reads as deskboard-next-line
+use Rattle.capi.proofs.deskboard_draw.Kinds as deskboard-draw-kinds
+use Rattle.capi.proofs.deskboard_draw.Reads as deskboard-draw
 use Rattle.capi.proofs.deskboard_compile.Kinds as deskboard-compile-kinds
 use Rattle.capi.proofs.deskboard_compile.Reads as deskboard-compile
 use Rattle.capi.proofs.deskboard_install.Kinds as deskboard-install-kinds
@@ -85,6 +87,15 @@ deskboard-next-line-frame-once κs a x y s t p q = p .1 .0 ∙ sym (q .1 .0)
 
 deskboard-next-line-settings-once : OneExit 3 deskboard-next-line-kinds.ps deskboard-next-line-kinds.r deskboard-next-line.Post (λ κs s. now (s .1 .1 .0))
 deskboard-next-line-settings-once κs a x y s t p q = p .1 .1 ∙ sym (q .1 .1)
+
+deskboard-draw-once : OneAnswer 5 deskboard-draw-kinds.ps deskboard-draw-kinds.r deskboard-draw.Post
+deskboard-draw-once κs a x y s t p q = p .0 ∙ sym (q .0)
+
+deskboard-draw-line-once : OneExit 5 deskboard-draw-kinds.ps deskboard-draw-kinds.r deskboard-draw.Post (λ κs s. now (s .1 .1 .1 .0))
+deskboard-draw-line-once κs a x y s t p q = p .1 .0 ∙ sym (q .1 .0)
+
+deskboard-draw-report-once : OneExit 5 deskboard-draw-kinds.ps deskboard-draw-kinds.r deskboard-draw.Post (λ κs s. now (s .1 .1 .1 .1 .0))
+deskboard-draw-report-once κs a x y s t p q = p .1 .1 ∙ sym (q .1 .1)
 
 deskboard-compile-once : OneAnswer 3 deskboard-compile-kinds.ps deskboard-compile-kinds.r deskboard-compile.Post
 deskboard-compile-once κs a x y s t p q = p .0 ∙ sym (q .0)

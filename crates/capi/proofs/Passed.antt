@@ -41,10 +41,10 @@ pub record Read {S : Type 0} (size : ℕ) (test : List ℕ → Bool) (of : List 
 
 module _ {S : Type 0} (size : ℕ) (test : List ℕ → Bool) (of : List ℕ → S) {words : List ℕ} {s : S} where
   -- as a call tests them
-  as-tested : {t : Bool} → size ≤ length words → t ≡ test words → not t ≡ false → s ≡ of words → Read size test of words s
+  pub as-tested : {t : Bool} → size ≤ length words → t ≡ test words → not t ≡ false → s ≡ of words → Read size test of words s
   as-tested {t = t} h e f is = record { enough = h; fits = sym e ∙ not-false t f; is = is }
 
-  by-state : Read size test of words s → {X : Type 0} (answer : S → Told X) (told : Told X) → told ≡ answer s → whole size words (unless (test words) 15 (answer (of words))) ≡ told
+  pub by-state : Read size test of words s → {X : Type 0} (answer : S → Told X) (told : Told X) → told ≡ answer s → whole size words (unless (test words) 15 (answer (of words))) ≡ told
   by-state r answer told t = simp (le-leb size (length words) (r .enough), r .fits) (ap answer (sym (r .is)) ∙ sym t)
 
 abbrev pub OnBoard : List ℕ → Board → Type 0

@@ -11,10 +11,11 @@ use Rattle.board.specs.declared.Board.{Board}
 use Rattle.settings.specs.declared.Settings.{Settings}
 use Rattle.frame.specs.declared.Frame.{Frame}
 use Rattle.frame.specs.Frame.{lineAnswer, lineFrame, startAnswer}
+use Rattle.pixels.specs.Draw.{drawAnswer, drawOutput}
 use Rattle.plan.specs.Compile.{compileAnswer, compileOutput}
 use Rattle.words.specs.Words.{laid}
 use Rattle.boardwords.specs.Board.{boardSize, boardOf, boardWords, boardFits}
-use Rattle.framewords.specs.Frame.{settingsSize, frameSize, settingsWords, frameOf, frameWords, frameFits}
+use Rattle.framewords.specs.Frame.{settingsSize, frameSize, settingsOf, settingsWords, settingsFits, frameOf, frameWords, frameFits}
 
 -- "0 where it was done, else the number of its refusal plus 256 times the item"
 abbrev pub numberTold : {X : Type 0} → Told X → ℕ
@@ -30,7 +31,7 @@ reportLaid words (refused number item) old = old
 abbrev pub whole : {X : Type 0} → ℕ → List ℕ → Told X → Told X
 whole n words rest = unless (leb n (length words)) 15 rest
 
--- "A report or settings buffer that is too short is refusal 13, tested last": after all else
+-- "A report that is too short is refusal 13, tested last; so are settings that a call writes to": after all else
 abbrev pub reportable : {X : Type 0} → ℕ → List ℕ → Told X → Told X
 reportable n report (done v) = unless (leb n (length report)) 13 (done v)
 reportable n report (refused number item) = refused number item
@@ -128,6 +129,23 @@ lineWords frame mem settings = kept (lineCall frame mem settings) frame (laid (f
 
 abbrev pub lineSettings : List ℕ → List ℕ → List ℕ → List ℕ
 lineSettings frame mem settings = reportLaid settingsWords (lineCall frame mem settings) settings
+
+-- "Draws a line: refusals 1, 15, 17, 13. The number of pixels goes to report[0]"
+unfoldable pub drawCall : List ℕ → List ℕ → List ℕ → ℕ → List ℕ → Told ℕ
+drawCall board settings mem room report =
+    reportable 1 report
+    (unless (goodLength (length mem)) 1
+    (whole boardSize board
+    (unless (boardFits board) 15
+    (whole settingsSize settings
+    (unless (settingsFits settings) 15 (drawAnswer (boardOf board) (settingsOf settings) mem room))))))
+
+abbrev pub drawLine : List ℕ → List ℕ → List ℕ → List ℕ → List ℕ → List ℕ
+drawLine board settings mem line report =
+    kept (drawCall board settings mem (length line) report) line (drawOutput (boardOf board) (settingsOf settings) mem line)
+
+abbrev pub drawReport : List ℕ → List ℕ → List ℕ → ℕ → List ℕ → List ℕ
+drawReport board settings mem room report = reportLaid (λ n. n ∷ []) (drawCall board settings mem room report) report
 
 -- "Compiles a plan: refusals 6, 5, 7 to 11, 13. The number of bytes goes to report[0]."
 unfoldable pub compileCall : List ℕ → ℕ → List ℕ → Told ℕ

@@ -1,11 +1,13 @@
 // What C and Rust call: include/deskboard.h says each call in words.
 // A call tests in the order of the refusal sheet: memory (1), its states (15), then its own, and last the room of its report (13).
 ghost use mathlib.Core.Path.{_≡_};
+ghost use mathlib.Core.List.{[]};
 ghost use lib.ListN.{length};
 ghost use Prim.Native.Nat.{_+_, _*_, _≤_};
 ghost use Rattle.refusal.specs.Sheet.{numberOf, outcomeTold, kept};
 ghost use Rattle.vram.specs.Install.{installAnswer, installMemory};
 ghost use Rattle.engine.specs.Run.{runTold};
+ghost use Rattle.pixels.specs.Draw.{drawAnswer};
 ghost use Rattle.plan.specs.Compile.{compileAnswer};
 ghost use Rattle.words.specs.Words.{laid};
 ghost use Rattle.boardwords.specs.Board.{boardOf, boardWords};
@@ -35,6 +37,10 @@ ghost use Rattle.capi.specs.Calls.{
   lineCall,
   lineWords,
   lineSettings,
+  reportable,
+  drawCall,
+  drawLine,
+  drawReport,
   compileCall,
   compileBytes,
   compileReport,
@@ -50,9 +56,11 @@ use frame::FrameStart;
 use frame::LineReport;
 use framewords::FRAME_WORDS;
 use framewords::SETTINGS_WORDS;
+use pixels::Drawn;
 use plan::Compiled;
 use refusal::Outcome;
 use refusal::Refusal;
+use settings::Settings;
 
 // The words of a board after a write or a reset that was done, and the number of the call.
 fn settle(board: &mut [u32], changed: Changed) -> u32
@@ -265,6 +273,61 @@ pub extern "C" fn deskboard_next_line(frame: &mut [u32], mem: &[u8], settings: &
             0
         }
         LineReport::Refused(why) => why.number() as u32,
+    }
+}
+
+// A line whose count has no room is drawn into one of our own, which has room for every line: refusals 1 and 15 come as always, 17 by
+// its count and the room, and a line that has none of these is refused 13.
+fn draw_unreported(board: Board, settings: Settings, mem: &[u8], room: usize) -> u32
+    ensures { λ r. ⌜ r ≡ numberTold (reportable 1 [] (drawAnswer board settings (now (mem .entry)) room)) ⌝ }
+{
+    let mut line = [0u16; 672];
+    let told = pixels::draw(board, settings, mem, &mut line);
+    match told {
+        Drawn::Pixels(count) => { if room < count as usize { 17 } else { 13 } }
+        Drawn::Refused(why) => why.number() as u32,
+    }
+}
+
+#[no_mangle]
+pub extern "C" fn deskboard_draw(
+    board: &[u32],
+    settings: &[u32],
+    mem: &[u8],
+    line: &mut [u16],
+    report: &mut [u32],
+) -> u32
+    ensures number { λ r. ⌜ r ≡ numberTold (drawCall (now (board .entry)) (now (settings .entry)) (now (mem .entry)) (length (now (line .entry))) (now (report .entry))) ⌝ }
+    ensures line { λ _. ⌜ now (line .exit) ≡ drawLine (now (board .entry)) (now (settings .entry)) (now (mem .entry)) (now (line .entry)) (now (report .entry)) ⌝ }
+    ensures report { λ _. ⌜ now (report .exit) ≡ drawReport (now (board .entry)) (now (settings .entry)) (now (mem .entry)) (length (now (line .entry))) (now (report .entry)) ⌝ }
+{
+    if !vram::good_length(mem.len()) {
+        return 1;
+    }
+    if board.len() < BOARD_WORDS {
+        return 15;
+    }
+    if !boardwords::board_fits(board) {
+        return 15;
+    }
+    if settings.len() < SETTINGS_WORDS {
+        return 15;
+    }
+    if !framewords::settings_fits(settings) {
+        return 15;
+    }
+    let b = boardwords::board_of(board);
+    let s = framewords::settings_of(settings);
+    if report.len() < 1 {
+        return draw_unreported(b, s, mem, line.len());
+    }
+    let told = pixels::draw(b, s, mem, line);
+    match told {
+        Drawn::Pixels(count) => {
+            words::lay(report, &[count as u32]);
+            0
+        }
+        Drawn::Refused(why) => why.number() as u32,
     }
 }
 

@@ -3,7 +3,7 @@ ghost use mathlib.Core.Path.{_≡_};
 ghost use Prim.Native.Nat.{_≤_, _<_};
 ghost use lib.ListN.{length};
 ghost use Rattle.words.specs.Words.{byteIn, halfIn, laid};
-ghost use Rattle.framewords.specs.Frame.{overlayOf, mapOf, lookOf, settingsOf, settingsWords, frameOf, frameWords, frameFits};
+ghost use Rattle.framewords.specs.Frame.{overlayOf, mapOf, lookOf, settingsOf, settingsWords, settingsFits, frameOf, frameWords, frameMost, frameFits};
 use frame::Frame;
 use record::Reader;
 use settings::Look;
@@ -76,7 +76,7 @@ fn look_of(words: &[u32]) -> Look
     }
 }
 
-fn settings_of(words: &[u32]) -> Settings
+fn read_settings(words: &[u32]) -> Settings
     requires { ⌜ 20 ≤ length (now words) ⌝ }
     ensures { λ r. ⌜ r ≡ settingsOf (now (words .entry)) ⌝ }
 {
@@ -89,6 +89,19 @@ fn settings_of(words: &[u32]) -> Settings
         look,
         origin: words[19],
     }
+}
+
+// The settings that the words say. Of words that fit, every word counts.
+// Words that are missing are 0: they are filled up first, so that a word that is read needs no test (docs/SPEED.md).
+pub fn settings_of(words: &[u32]) -> Settings
+    ensures { λ r. ⌜ r ≡ settingsOf (now (words .entry)) ⌝ }
+{
+    if words.len() < SETTINGS_WORDS {
+        let mut whole = [0; SETTINGS_WORDS];
+        lay(&mut whole, words);
+        return read_settings(&whole);
+    }
+    read_settings(words)
 }
 
 // The words of a line's settings, laid over what is lent.
@@ -127,7 +140,7 @@ fn read_frame(words: &[u32]) -> Frame
     requires { ⌜ 25 ≤ length (now words) ⌝ }
     ensures { λ r. ⌜ r ≡ frameOf (now (words .entry)) ⌝ }
 {
-    let settings = settings_of(words);
+    let settings = read_settings(words);
     let reader = Reader {
         settings,
         position: words[20],
@@ -141,8 +154,7 @@ fn read_frame(words: &[u32]) -> Frame
     }
 }
 
-// The frame that the words say. Of words that fit, every word counts.
-// Words that are missing are 0: they are filled up first, so that a word that is read needs no test (docs/SPEED.md).
+// The frame that the words say. Of words that fit, every word counts; those that are missing are filled up.
 pub fn frame_of(words: &[u32]) -> Frame
     ensures { λ r. ⌜ r ≡ frameOf (now (words .entry)) ⌝ }
 {
@@ -154,37 +166,37 @@ pub fn frame_of(words: &[u32]) -> Frame
     read_frame(words)
 }
 
-// Whether each word of a frame is within its field's type.
+// The largest word of each field of a frame, its settings first: that of a byte, but for these.
+fn largest() -> [u32; FRAME_WORDS]
+    ensures { λ r. ⌜ r ≡ frameMost ⌝ }
+{
+    let mut most = [255; FRAME_WORDS];
+    most[1] = 4294967295;
+    most[2] = 65535;
+    most[7] = 1;
+    most[8] = 4294967295;
+    most[9] = 65535;
+    most[19] = 4294967295;
+    most[20] = 4294967295;
+    most[22] = 65535;
+    most[23] = 1;
+    most[24] = 1;
+    most
+}
+
+// Whether each word of a line's settings is within its field's type.
+pub fn settings_fits(words: &[u32]) -> bool
+    ensures { λ r. ⌜ r ≡ settingsFits (now (words .entry)) ⌝ }
+{
+    let most = largest();
+    all_within(words, 0, &most[..SETTINGS_WORDS])
+}
+
+// Whether each word of a frame is.
 pub fn frame_fits(words: &[u32]) -> bool
     ensures { λ r. ⌜ r ≡ frameFits (now (words .entry)) ⌝ }
 {
-    let most = [
-        255,
-        4294967295,
-        65535,
-        255,
-        255,
-        255,
-        255,
-        1,
-        4294967295,
-        65535,
-        255,
-        255,
-        255,
-        255,
-        255,
-        255,
-        255,
-        255,
-        255,
-        4294967295,
-        4294967295,
-        255,
-        65535,
-        1,
-        1,
-    ];
+    let most = largest();
     all_within(words, 0, &most)
 }
 

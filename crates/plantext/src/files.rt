@@ -1,4 +1,4 @@
-// The plans that a program is given: on standard input, and in the files that its arguments name. What cannot be read is told on
+// The plans and files that a program is given: on standard input, and in the files that its arguments name. What cannot be read is told on
 // standard error.
 ghost use Rattle.io.specs.Counts.{Counts};
 
@@ -59,8 +59,9 @@ fn read_path(path: &[u8], plan: &mut [u8]) -> Got
     got
 }
 
-fn read_file(i: usize, plan: &mut [u8]) -> Got
-    ensures { λ r. ⌜ Counts (r .bytes) (now (plan .exit)) ⌝ }
+// The bytes of the file that an argument names, as many as fit.
+pub fn read_file(i: usize, bytes: &mut [u8]) -> Got
+    ensures { λ r. ⌜ Counts (r .bytes) (now (bytes .exit)) ⌝ }
 {
     let mut path = io::buffer();
     let n = os::arg(i, &mut path);
@@ -71,7 +72,7 @@ fn read_file(i: usize, plan: &mut [u8]) -> Got
             failed: true,
         };
     }
-    read_path(&path[..n], plan)
+    read_path(&path[..n], bytes)
 }
 
 // The plan in the file that an argument names. For argument 0, which is the program, it is the plan on standard input.

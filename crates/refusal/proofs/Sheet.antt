@@ -8,7 +8,7 @@ use lib.ListN.{getD}
 use Rattle.laws.proofs.Once.{OneAnswer}
 use Rattle.refusal.specs.Sheet.{numberOf, Told, done, refused, outcomeTold, unless}
 use Rattle.refusal.specs.declared.Refusal.{Refusal}
-use Rattle.refusal.specs.declared.Refusal.the-variants.{Board, Budget, Register, FrameOver, PlanCut, NoBand, Kind, Length, Field, First, Lines, Room, Address, State}
+use Rattle.refusal.specs.declared.Refusal.the-variants.{Board, Budget, Register, FrameOver, PlanCut, NoBand, Kind, Length, Field, First, Lines, Room, Address, State, Short}
 use Rattle.refusal.specs.declared.Outcome.{Outcome}
 use Rattle.refusal.specs.declared.Outcome.the-variants.{Done, Refused}
 use Rattle.refusal.proofs.Refusal.number.Kinds as number-kinds
@@ -17,7 +17,7 @@ use Rattle.refusal.proofs.Refusal.number.Reads as number
 -- the name at a number; at an unused one, any
 abbrev nameOf : ℕ → Refusal
 nameOf k =
-    getD (Board ∷ Board ∷ Budget ∷ Register ∷ FrameOver ∷ PlanCut ∷ NoBand ∷ Kind ∷ Length ∷ Field ∷ First ∷ Lines ∷ Board ∷ Room ∷ Address ∷ State ∷ []) k Board
+    getD (Board ∷ Board ∷ Budget ∷ Register ∷ FrameOver ∷ PlanCut ∷ NoBand ∷ Kind ∷ Length ∷ Field ∷ First ∷ Lines ∷ Board ∷ Room ∷ Address ∷ State ∷ Board ∷ Short ∷ []) k Board
 
 name-number : (w : Refusal) → nameOf (numberOf w) ≡ w
 name-number Board = refl
@@ -34,6 +34,7 @@ name-number Lines = refl
 name-number Room = refl
 name-number Address = refl
 name-number State = refl
+name-number Short = refl
 
 -- no two refusals share a number
 pub number-one : (v w : Refusal) → numberOf v ≡ numberOf w → v ≡ w

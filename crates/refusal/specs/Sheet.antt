@@ -2,11 +2,11 @@
 use Prim.Native.Nat.{ℕ}
 use mathlib.Core.Bool.{Bool, true, false}
 use Rattle.refusal.specs.declared.Refusal.{Refusal}
-use Rattle.refusal.specs.declared.Refusal.the-variants.{Board, Budget, Register, FrameOver, PlanCut, NoBand, Kind, Length, Field, First, Lines, Room, Address, State}
+use Rattle.refusal.specs.declared.Refusal.the-variants.{Board, Budget, Register, FrameOver, PlanCut, NoBand, Kind, Length, Field, First, Lines, Room, Address, State, Short}
 use Rattle.refusal.specs.declared.Outcome.{Outcome}
 use Rattle.refusal.specs.declared.Outcome.the-variants.{Done, Refused}
 
--- the table: each name's number; 12 is unused (document 02, A7)
+-- the table: each name's number; 12 is unused (document 02, A7), 17 is of document 02, A5, and 16 is not there
 abbrev pub numberOf : Refusal → ℕ
 numberOf Board = 1
 numberOf Budget = 2
@@ -22,6 +22,7 @@ numberOf Lines = 11
 numberOf Room = 13
 numberOf Address = 14
 numberOf State = 15
+numberOf Short = 17
 
 -- what a call tells: its values, or the number and the item of a refusal
 pub data Told (X : Type 0) : Type 0 where

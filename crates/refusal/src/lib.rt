@@ -1,7 +1,7 @@
 ghost use mathlib.Core.Path.{_≡_};
 ghost use Rattle.refusal.specs.Sheet.{numberOf};
 
-// The refusal sheet: why a call was refused. The names are the paper's.
+// The refusal sheet: why a call was refused. The names are document 01's; Short, of document 02, is ours.
 pub enum Refusal {
     Board,
     Budget,
@@ -17,6 +17,7 @@ pub enum Refusal {
     Room,
     Address,
     State,
+    Short,
 }
 
 // What a call tells that has nothing else to report: it is done, or why it is refused.
@@ -45,6 +46,7 @@ impl Refusal {
             Refusal::Room => 13,
             Refusal::Address => 14,
             Refusal::State => 15,
+            Refusal::Short => 17,
         }
     }
 }

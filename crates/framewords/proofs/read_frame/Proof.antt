@@ -5,8 +5,8 @@ use borrow.Author.Needs.{needs}
 use Rattle.framewords.proofs.read_frame.Statement.{statement}
 use Rattle.framewords.proofs.read_frame.Tie as tie
 
-settings-of-requires : tie.Need-settings-of-requires
-settings-of-requires c κs = search needs
+read-settings-requires : tie.Need-read-settings-requires
+read-settings-requires c κs = search needs
 
 shared-slice-read-t5 : tie.Need-shared-slice-read-t5
 shared-slice-read-t5 c = search needs
@@ -30,7 +30,7 @@ returns c =
     λ i.
     record {
       reader = record {
-        settings = c .before .before .before .before .before .settings-of .ensures i;
+        settings = c .before .before .before .before .before .read-settings .ensures i;
         position = wordAt words 20;
         repeat = c .before .before .before .byte .ensures i;
         ended = switchIn words 23;
@@ -43,7 +43,7 @@ pub read-frame-spec : {M : Type 1} → statement M
 read-frame-spec =
     tie.close
     (tie.spec
-    settings-of-requires
+    read-settings-requires
     shared-slice-read-t5
     byte-requires
     shared-slice-read-t8

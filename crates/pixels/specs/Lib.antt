@@ -1,0 +1,5 @@
+-- One overlay line, drawn.
+pub mod Pixels
+pub mod Draw
+pub mod Reads
+pub mod Fills
