@@ -19,6 +19,13 @@ pub trait Card {
     fn run(board: &mut [u32], mem: &mut [u8], budget: u32, report: &mut [u32]) -> u32;
     fn start(board: &[u32], frame: &mut [u32]) -> u32;
     fn next_line(frame: &mut [u32], mem: &[u8], settings: &mut [u32]) -> u32;
+    fn draw(
+        board: &[u32],
+        settings: &[u32],
+        mem: &[u8],
+        line: &mut [u16],
+        report: &mut [u32],
+    ) -> u32;
     fn compile(plan: &[u8], out: &mut [u8], report: &mut [u32]) -> u32;
     fn install(mem: &mut [u8], list: &[u8], address: u32) -> u32;
 }

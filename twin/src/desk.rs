@@ -45,6 +45,18 @@ mod ffi {
             settings: *mut u32,
             settings_len: usize,
         ) -> u32;
+        pub fn deskboard_draw(
+            board: *const u32,
+            board_len: usize,
+            settings: *const u32,
+            settings_len: usize,
+            mem: *const u8,
+            mem_len: usize,
+            line: *mut u16,
+            line_len: usize,
+            report: *mut u32,
+            report_len: usize,
+        ) -> u32;
         pub fn deskboard_compile(
             plan: *const u8,
             plan_len: usize,
@@ -138,6 +150,29 @@ impl Card for Desk {
                 mem.len(),
                 settings.as_mut_ptr(),
                 settings.len(),
+            )
+        }
+    }
+
+    fn draw(
+        board: &[u32],
+        settings: &[u32],
+        mem: &[u8],
+        line: &mut [u16],
+        report: &mut [u32],
+    ) -> u32 {
+        unsafe {
+            ffi::deskboard_draw(
+                board.as_ptr(),
+                board.len(),
+                settings.as_ptr(),
+                settings.len(),
+                mem.as_ptr(),
+                mem.len(),
+                line.as_mut_ptr(),
+                line.len(),
+                report.as_mut_ptr(),
+                report.len(),
             )
         }
     }

@@ -8,12 +8,12 @@ mod common;
 
 use common::{at, make};
 use std::env;
-use std::fmt::Write;
+use std::fmt::{UpperHex, Write};
 use std::time::Instant;
 use twin::card::{Card, BOARD_WORDS, FRAME_WORDS, SETTINGS_WORDS};
 use twin::desk::Desk;
 use twin::random::{spread, Random};
-use twin::twin::{meaning, xdl, Refusal, Twin};
+use twin::twin::{meaning, xdl, Refusal, Settings, Twin, MAX_PIXELS, TRANSPARENT};
 
 /// Everything that is lent to calls.
 #[derive(Clone, Default, PartialEq)]
@@ -24,6 +24,7 @@ struct Lent {
     settings: Vec<u32>,
     mem: Vec<u8>,
     out: Vec<u8>,
+    line: Vec<u16>,
 }
 
 #[derive(Clone, Copy, Debug)]
@@ -36,6 +37,7 @@ enum Call<'a> {
     Run(u32),
     Start,
     NextLine,
+    Draw,
     Compile(&'a [u8]),
     Install(&'a [u8], u32),
 }
@@ -49,6 +51,7 @@ impl Call<'_> {
             settings,
             mem,
             out,
+            line,
         } = lent;
         match *self {
             Call::New => C::new_board(board),
@@ -59,6 +62,7 @@ impl Call<'_> {
             Call::Run(budget) => C::run(board, mem, budget, report),
             Call::Start => C::start(board, frame),
             Call::NextLine => C::next_line(frame, mem, settings),
+            Call::Draw => C::draw(board, settings, mem, line, report),
             Call::Compile(plan) => C::compile(plan, out, report),
             Call::Install(list, address) => C::install(mem, list, address),
         }
@@ -118,14 +122,29 @@ fn hex_words(words: &[u32]) -> String {
     words.iter().map(|word| format!("{word:X} ")).collect()
 }
 
+/// The places where two buffers differ.
+fn print_differing<T: PartialEq + UpperHex>(name: &str, desk: &[T], twin: &[T]) {
+    let differing = desk.iter().zip(twin).enumerate();
+    let differing: Vec<_> = differing.filter(|(_, (a, b))| a != b).collect();
+    println!("{name} that differ: {}", differing.len());
+    for (place, (desk, twin)) in differing.iter().take(32) {
+        println!("  {place:05X}: desk {desk:02X}, twin {twin:02X}");
+    }
+}
+
 #[derive(Clone, Default)]
 struct Tally {
     scenarios: u64,
     calls: u64,
     ticks: u64,
     lines: u64,
+    /// Drawn lines, by their mode and by bits 2 and 3 of VIDEO_CONTROL.
+    drawn: [[u64; 4]; 5],
+    /// Drawn pixels, and how many of them were transparent.
+    pixels: u64,
+    transparent: u64,
     /// How often each number was answered, 0 where the call was done.
-    numbers: [u64; 16],
+    numbers: [u64; 18],
     /// How many refusals were at an item other than 0.
     items: u64,
 }
@@ -136,10 +155,23 @@ impl Tally {
         self.calls += more.calls;
         self.ticks += more.ticks;
         self.lines += more.lines;
+        self.pixels += more.pixels;
+        self.transparent += more.transparent;
         self.items += more.items;
+        let drawn = self.drawn.as_flattened_mut().iter_mut();
+        for (sum, count) in drawn.zip(more.drawn.as_flattened()) {
+            *sum += count;
+        }
         for (sum, count) in self.numbers.iter_mut().zip(more.numbers) {
             *sum += count;
         }
+    }
+
+    fn add_line(&mut self, mode: u32, video_control: u32, pixels: &[u16]) {
+        self.drawn[mode as usize][video_control as usize / 4] += 1;
+        self.pixels += pixels.len() as u64;
+        let transparent = pixels.iter().filter(|&&pixel| pixel == TRANSPARENT);
+        self.transparent += transparent.count() as u64;
     }
 }
 
@@ -162,8 +194,7 @@ impl<'a> Pair<'a> {
             frame: vec![0; FRAME_WORDS],
             report: vec![0; 2],
             settings: vec![0; SETTINGS_WORDS],
-            mem: Vec::new(),
-            out: Vec::new(),
+            ..Lent::default()
         };
         Pair {
             desk: lent.clone(),
@@ -191,6 +222,7 @@ impl<'a> Pair<'a> {
         keep.frame.clone_from(&self.twin.frame);
         keep.report.clone_from(&self.twin.report);
         keep.settings.clone_from(&self.twin.settings);
+        keep.line.clone_from(&self.twin.line);
         if call.lends_memory_to_write() {
             keep.mem.clone_from(&self.twin.mem);
         }
@@ -207,10 +239,40 @@ impl<'a> Pair<'a> {
             match call {
                 Call::Run(_) | Call::Tick => self.tally.ticks += u64::from(self.twin.report[0]),
                 Call::NextLine => self.tally.lines += 1,
+                Call::Draw => {
+                    let Lent {
+                        board,
+                        report,
+                        settings,
+                        line,
+                        ..
+                    } = &self.twin;
+                    let (mode, control) = (settings[at::MODE], board[at::VIDEO_CONTROL]);
+                    let pixels = &line[..report[0] as usize];
+                    self.tally.add_line(mode, control, pixels);
+                }
                 _ => {}
             }
         }
+        if let Call::Draw = call {
+            self.stays_but_for_the_line(twin == 0);
+        }
         twin
+    }
+
+    /// Drawing changes the pixels and the report's first word alone, and a refusal nothing. The boards agree already.
+    fn stays_but_for_the_line(&self, done: bool) {
+        let (before, now) = (&self.before, &self.twin);
+        let pixels = if done { now.report[0] as usize } else { 0 };
+        let same = before.board == now.board
+            && before.settings == now.settings
+            && before.line[pixels..] == now.line[pixels..]
+            && before.report[usize::from(done)..] == now.report[usize::from(done)..];
+        assert!(
+            same,
+            "{}:{:#X}: more than a line was drawn",
+            self.family, self.seed
+        );
     }
 
     fn disagree(&self, call: Call, desk: u32, twin: u32) -> ! {
@@ -227,6 +289,7 @@ impl<'a> Pair<'a> {
         println!("  report   {}", hex_words(&self.before.report));
         println!("  settings {}", hex_words(&self.before.settings));
         println!("  output   {} bytes", self.twin.out.len());
+        println!("  line     {} entries", self.twin.line.len());
         let mem = if call.lends_memory_to_write() {
             &self.before.mem
         } else {
@@ -241,17 +304,10 @@ impl<'a> Pair<'a> {
             println!("  report   {}", hex_words(&lent.report));
             println!("  settings {}", hex_words(&lent.settings));
         }
-        for (name, desk, twin) in [
-            ("memory", &self.desk.mem, &self.twin.mem),
-            ("output", &self.desk.out, &self.twin.out),
-        ] {
-            let differing = desk.iter().zip(twin).enumerate();
-            let differing: Vec<_> = differing.filter(|(_, (a, b))| a != b).collect();
-            println!("Bytes of {name} that differ: {}", differing.len());
-            for (place, (desk, twin)) in differing.iter().take(32) {
-                println!("  {place:05X}: desk {desk:02X}, twin {twin:02X}");
-            }
-        }
+        let (desk, twin) = (&self.desk, &self.twin);
+        print_differing("Bytes of memory", &desk.mem, &twin.mem);
+        print_differing("Bytes of output", &desk.out, &twin.out);
+        print_differing("Entries of the line", &desk.line, &twin.line);
         panic!("{}:{:#X}: the boards disagree", self.family, self.seed);
     }
 }
@@ -383,7 +439,7 @@ fn flat(r: &mut Random, pair: &mut Pair) {
     }
 }
 
-/// Register writes and reads, resets, runs and lines in any order.
+/// Register writes and reads, resets, runs, lines and drawn lines in any order.
 fn scripts(r: &mut Random, pair: &mut Pair) {
     let length = make::length(r).min(1 << 16);
     let mut mem = make::memory(r, length);
@@ -391,6 +447,7 @@ fn scripts(r: &mut Random, pair: &mut Pair) {
     let xdl = make::xdl(r, &mut mem);
     pair.lend(|lent| {
         lent.mem = mem;
+        lent.line = any_line(r, MAX_PIXELS);
         margins(r, lent);
     });
     pair.call(Call::New);
@@ -419,6 +476,7 @@ fn scripts(r: &mut Random, pair: &mut Pair) {
             15 => pair.call(Call::Start),
             16..=17 => pair.call(Call::NextLine),
             18 => pair.call(Call::Tick),
+            19 => pair.call(Call::Draw),
             _ => pair.call(Call::Run(budget(r, 200))),
         };
     }
@@ -542,6 +600,73 @@ fn frames(r: &mut Random, pair: &mut Pair) {
     }
 }
 
+/// A lent line with something in each of its entries.
+fn any_line(r: &mut Random, entries: usize) -> Vec<u16> {
+    (0..entries).map(|_| r.word() as u16).collect()
+}
+
+/// Lines drawn from settings good and damaged, into lent lines about as long as they have to be.
+fn drawings(r: &mut Random, pair: &mut Pair) {
+    let length = if r.chance(15, 16) {
+        make::length(r)
+    } else {
+        make::bad_length(r)
+    };
+    let mem = make::picture(r, length);
+    pair.lend(|lent| lent.mem = mem);
+    for _ in 0..16 {
+        let mut board = make::board(r);
+        board[at::VIDEO_CONTROL] = r.below(16);
+        let mut settings = make::settings(r, length);
+        match r.below(24) {
+            0 => make::damage(r, &mut board),
+            1 => make::damage(r, &mut settings),
+            2 => {
+                // Words out of their types, or just out of their ranges.
+                let spot = r.below(SETTINGS_WORDS as u32) as usize;
+                settings[spot] += r.pick(&[1, 8, 256, 65_536, 0x8000_0000]);
+            }
+            3 => {
+                let height = r.between(1, 33);
+                settings[at::FIELD_HEIGHT] = height;
+                settings[at::FIELD] = height - 1 + r.below(2);
+            }
+            4 => settings = std::array::from_fn(|_| make::odd_word(r)),
+            _ => {}
+        }
+        let pixels = Settings::from_words(&settings).map_or(320, |settings| settings.pixels());
+        let entries = match r.below(8) {
+            0 => pixels.saturating_sub(1),
+            1 => r.below(pixels as u32 + 1) as usize,
+            2 => pixels,
+            3 | 4 => pixels + r.below(9) as usize,
+            _ => MAX_PIXELS + r.below(9) as usize,
+        };
+        pair.lend(|lent| {
+            lent.board = board.to_vec();
+            lent.settings = settings.to_vec();
+            lent.line = any_line(r, entries);
+            for _ in 0..r.below(3) {
+                lent.board.push(r.word());
+                lent.settings.push(r.word());
+            }
+            lent.report = (0..r.pick(&[0, 1, 1, 1, 2, 2, 3]))
+                .map(|_| r.word())
+                .collect();
+            if r.chance(1, 24) {
+                let words = if r.chance(1, 2) {
+                    &mut lent.board
+                } else {
+                    &mut lent.settings
+                };
+                let keep = r.below(words.len() as u32);
+                words.truncate(keep as usize);
+            }
+        });
+        pair.call(Call::Draw);
+    }
+}
+
 /// Good and broken plans into all kinds of buffers; those that are taken are installed and shown.
 fn plans(r: &mut Random, pair: &mut Pair) {
     let plan = if r.chance(1, 2) {
@@ -633,7 +758,7 @@ fn every_address(r: &mut Random, pair: &mut Pair) {
 
 type Family = (&'static str, u64, fn(&mut Random, &mut Pair));
 
-const FAMILIES: [Family; 9] = [
+const FAMILIES: [Family; 10] = [
     ("lists", 16_000, lists),
     ("long_runs", 24, long_runs),
     ("scripts", 5_000, scripts),
@@ -643,6 +768,7 @@ const FAMILIES: [Family; 9] = [
     ("installs", 10_000, installs),
     ("every_address", 1, every_address),
     ("flat", 8_000, flat),
+    ("drawings", 12_000, drawings),
 ];
 
 fn number(text: &str) -> u64 {
@@ -709,6 +835,12 @@ fn the_boards_agree() {
     }
     println!(" at an item other than 0 x {}.", total.items);
     println!(
+        "Drawn: {} lines, {} pixels, {} of them transparent.",
+        total.drawn.as_flattened().iter().sum::<u64>(),
+        total.pixels,
+        total.transparent
+    );
+    println!(
         "Agreed: {} scenarios, {} ticks.",
         total.scenarios, total.ticks
     );
@@ -721,4 +853,11 @@ fn the_boards_agree() {
         assert_eq!(count > 0, told, "number {number} came {count} times");
     }
     assert!(total.items > 0);
+    // Each mode was drawn often under each rule for transparent colours, and neither kind of pixel is rare.
+    assert!(total
+        .drawn
+        .as_flattened()
+        .iter()
+        .all(|&lines| lines > 1_000));
+    assert!(total.transparent * 20 > total.pixels && total.transparent * 2 < total.pixels);
 }

@@ -359,6 +359,79 @@ fn where_a_plan_lies_moves_the_origin_alone() {
     }
 }
 
+/// One pixel of a line, by the manual's rules for its mode.
+fn plain_pixel(video_control: u32, settings: &[u32], mem: &[u8], number: u32) -> u32 {
+    let no_trans = video_control / 4 % 2 == 1;
+    let trans15 = video_control / 8 % 2 == 1;
+    let address = settings[at::OVADR];
+    let (colour, transparent) = match settings[at::MODE] {
+        TEXT => {
+            let column = number + settings[at::HSCROLL];
+            let character = byte_at(mem, address + column / 8 * 2);
+            let attribute = byte_at(mem, address + column / 8 * 2 + 1);
+            let glyph = settings[at::FONT] * 2_048 + character * 8;
+            let bits = byte_at(mem, glyph + settings[at::TEXT]);
+            if bits >> (7 - column % 8) & 1 == 1 {
+                (attribute % 128, false)
+            } else if attribute < 128 {
+                (128, true)
+            } else {
+                (attribute % 128 + 128, false)
+            }
+        }
+        HR => {
+            let byte = byte_at(mem, address + number / 2);
+            let nibble = [byte / 16, byte % 16][number as usize % 2];
+            (nibble, nibble == 0)
+        }
+        _ => {
+            let byte = byte_at(mem, address + number);
+            (byte, byte == 0)
+        }
+    };
+    let invisible = transparent || trans15 && colour % 16 == 15;
+    if invisible && !no_trans {
+        65_535
+    } else {
+        settings[at::OV_PALETTE] * 256 + colour
+    }
+}
+
+#[test]
+fn each_pixel_is_the_one_of_the_formulas() {
+    const PIXELS: [[u32; 3]; 5] = [
+        [0, 0, 0],
+        [512, 640, 672],
+        [256, 320, 336],
+        [512, 640, 672],
+        [128, 160, 168],
+    ];
+    let (mut total, mut transparent) = ([0; 5], [0; 5]);
+    for seed in 0..6_000 {
+        let mut r = Random::new(seed);
+        let mut rig = Rig::<Twin>::new();
+        let length = make::length(&mut r);
+        rig.mem = make::picture(&mut r, length);
+        rig.board = make::board(&mut r);
+        let settings = make::settings(&mut r, length);
+        let (mode, width) = (settings[at::MODE] as usize, settings[at::WIDTH] as usize);
+        let video_control = rig.board[at::VIDEO_CONTROL];
+        let line = rig.draw(&settings);
+        assert_eq!(line.len() as u32, PIXELS[mode][width], "seed {seed}");
+        for (number, pixel) in (0..).zip(line) {
+            let plain = plain_pixel(video_control, &settings, &rig.mem, number);
+            assert_eq!(u32::from(pixel), plain, "seed {seed}, pixel {number}");
+            total[mode] += 1;
+            transparent[mode] += u32::from(pixel == CLEAR);
+        }
+    }
+    println!("pixels by mode {total:?}, transparent {transparent:?}");
+    for mode in [TEXT, SR, HR, LR] {
+        let mode = mode as usize;
+        assert!(transparent[mode] * 20 > total[mode] && transparent[mode] * 2 < total[mode]);
+    }
+}
+
 #[test]
 fn sound_words_are_kept() {
     for seed in 0..5_000 {

@@ -155,6 +155,66 @@ fn six_and_two() -> Vec<u8> {
     joined(&[band.bytes(), more.bytes()])
 }
 
+/// The words of settings, and the least and the greatest that each may be. The field counter's are for a height of 8.
+const SETTINGS_LIMITS: [(usize, u32, u32); SETTINGS_WORDS] = [
+    (at::MODE, 0, 4),
+    (at::OVADR, 0, 524_287),
+    (at::OVSTEP, 0, 4_095),
+    (at::HSCROLL, 0, 7),
+    (at::VSCROLL, 0, 7),
+    (at::FONT, 0, 255),
+    (at::TEXT, 0, 7),
+    (at::MAP, 0, 1),
+    (at::MAPADR, 0, 524_287),
+    (at::MAPSTEP, 0, 4_095),
+    (at::MAP_HSCROLL, 0, 31),
+    (at::MAP_VSCROLL, 0, 31),
+    (at::FIELD_WIDTH, 8, 32),
+    (at::FIELD_HEIGHT, 1, 32),
+    (at::FIELD, 0, 7),
+    (at::WIDTH, 0, 2),
+    (at::OV_PALETTE, 0, 3),
+    (at::PF_PALETTE, 0, 3),
+    (at::PRIORITY, 0, 255),
+    (at::ORIGIN, 0, 524_288),
+];
+
+/// Document 02's A5: the set and the clear pixel of a character with an attribute, in palette 2.
+fn character<C: Card>(video_control: u8, attribute: u8) -> (u16, u16) {
+    let mut rig = Rig::<C>::new();
+    // Character 3 of font 1 is at 2,048 and 24.
+    rig.put(2_072, &[0xF0]);
+    rig.put(0x1000, &[3, attribute]);
+    let mut settings = line_in(TEXT);
+    settings[at::OVADR] = 0x1000;
+    settings[at::FONT] = 1;
+    settings[at::OV_PALETTE] = 2;
+    let line = rig.draw_with(video_control, &settings);
+    let (set, clear) = (line[0], line[7]);
+    assert_eq!(line[..4], [set; 4]);
+    assert_eq!(line[4..8], [clear; 4]);
+    (set, clear)
+}
+
+/// Text at 1000h, in which character k has its first column in colour k and the others in k + 128.
+fn numbered_text<C: Card>() -> Rig<C> {
+    let mut rig = Rig::new();
+    // Character 1 of font 0.
+    rig.put(8, &[0x80]);
+    for number in 0..100 {
+        rig.put(0x1000 + 2 * number, &[1, 0x80 + number as u8]);
+    }
+    rig
+}
+
+/// A sound board at work, with VIDEO_CONTROL 0 and nothing else as on a new one.
+fn busy_board() -> [u32; BOARD_WORDS] {
+    let mut board = [1; BOARD_WORDS];
+    board[at::VIDEO_CONTROL] = 0;
+    board[at::FLAGS] = 2;
+    board
+}
+
 worked! {
     // The worked cases.
 
@@ -768,33 +828,13 @@ worked! {
     }
 
     fn sound_frames<C>() {
-        let limits = [
-            (at::MODE, 0, 4),
-            (at::OVADR, 0, 524_287),
-            (at::OVSTEP, 0, 4_095),
-            (at::HSCROLL, 0, 7),
-            (at::VSCROLL, 0, 7),
-            (at::FONT, 0, 255),
-            (at::TEXT, 0, 7),
-            (at::MAP, 0, 1),
-            (at::MAPADR, 0, 524_287),
-            (at::MAPSTEP, 0, 4_095),
-            (at::MAP_HSCROLL, 0, 31),
-            (at::MAP_VSCROLL, 0, 31),
-            (at::FIELD_WIDTH, 8, 32),
-            (at::FIELD_HEIGHT, 1, 32),
-            (at::FIELD, 0, 7),
-            (at::WIDTH, 0, 2),
-            (at::OV_PALETTE, 0, 3),
-            (at::PF_PALETTE, 0, 3),
-            (at::PRIORITY, 0, 255),
-            (at::ORIGIN, 0, 524_288),
+        let others = [
             (at::POSITION, 0, 524_287),
             (at::REPEAT, 0, 255),
             (at::ENDED, 0, 1),
             (at::ON, 0, 1),
         ];
-        for (word, first, last) in limits {
+        for (word, first, last) in SETTINGS_LIMITS.into_iter().chain(others) {
             for value in [first, last] {
                 let mut rig = Rig::<C>::with_xdl(&[]);
                 rig.frame[word] = value;
@@ -1994,5 +2034,667 @@ worked! {
     fn zeros_behind_240_bands<C>() {
         let plan = [times(240, full()), vec![0; 1_713]].concat();
         assert_eq!(compile::<C>(&plan), Err((7, 240)));
+    }
+
+    // Drawn lines (document 02, A5).
+
+    fn pixels_of_all_modes_and_widths<C>() {
+        let counts = [
+            (OFF, [0, 0, 0]),
+            (TEXT, [512, 640, 672]),
+            (SR, [256, 320, 336]),
+            (HR, [512, 640, 672]),
+            (LR, [128, 160, 168]),
+        ];
+        let rig = Rig::<C>::new();
+        for (mode, counts) in counts {
+            for (width, count) in (0..).zip(counts) {
+                // A scroll shows no more of a line.
+                for hscroll in [0, 1, 7] {
+                    let mut settings = line_in(mode);
+                    settings[at::WIDTH] = width;
+                    settings[at::HSCROLL] = hscroll;
+                    assert_eq!(rig.draw(&settings).len(), count, "mode {mode}, width {width}");
+                    assert_eq!(rig.answer_draw(&settings, count), 0);
+                    for short in [0, 1, count / 2, count.saturating_sub(1)] {
+                        if short < count {
+                            assert_eq!(rig.answer_draw(&settings, short), 17, "{short} of {count}");
+                        }
+                    }
+                }
+            }
+        }
+    }
+
+    fn an_off_line_fits_into_nothing<C>() {
+        let mut rig = Rig::<C>::new();
+        rig.mem.fill(0xAB);
+        let mut report = [999; 3];
+        assert_eq!(C::draw(&rig.board, &line_in(OFF), &rig.mem, &mut [], &mut report), 0);
+        assert_eq!(report, [0, 999, 999]);
+        let mut line = [UNDRAWN; 3];
+        assert_eq!(C::draw(&rig.board, &line_in(OFF), &rig.mem, &mut line, &mut report), 0);
+        assert_eq!((line, report), ([UNDRAWN; 3], [0, 999, 999]));
+    }
+
+    fn refusals_of_a_drawn_line_in_order<C>() {
+        let mut rig = Rig::<C>::new();
+        let mut settings = line_in(SR);
+        let mut line = [UNDRAWN; 320];
+        settings[at::MODE] = 5;
+        rig.board[at::FLAGS] = 3;
+        rig.mem.pop();
+        assert_eq!(C::draw(&rig.board, &settings, &rig.mem, &mut line[..319], &mut []), 1);
+        rig.mem.push(0);
+        assert_eq!(C::draw(&rig.board, &settings, &rig.mem, &mut line[..319], &mut []), 15);
+        rig.board[at::FLAGS] = 0;
+        assert_eq!(C::draw(&rig.board, &settings, &rig.mem, &mut line[..319], &mut []), 15);
+        settings[at::MODE] = SR;
+        rig.board[at::FLAGS] = 3;
+        assert_eq!(C::draw(&rig.board, &settings, &rig.mem, &mut line[..319], &mut []), 15);
+        rig.board[at::FLAGS] = 0;
+        assert_eq!(C::draw(&rig.board, &settings, &rig.mem, &mut line[..319], &mut []), 17);
+        assert_eq!(C::draw(&rig.board, &settings, &rig.mem, &mut line[..319], &mut [0]), 17);
+        assert_eq!(C::draw(&rig.board, &settings, &rig.mem, &mut line, &mut []), 13);
+        assert_eq!(line, [UNDRAWN; 320]);
+        assert_eq!(C::draw(&rig.board, &settings, &rig.mem, &mut line, &mut [0]), 0);
+        assert_eq!(line, [CLEAR; 320]);
+
+        // An off line too needs room for its number.
+        settings[at::MODE] = OFF;
+        assert_eq!(C::draw(&rig.board, &settings, &rig.mem, &mut [], &mut []), 13);
+    }
+
+    fn good_and_bad_lengths_for_a_drawn_line<C>() {
+        for mode in [OFF, SR] {
+            for shift in 14..=19 {
+                let mut rig = Rig::<C>::new();
+                rig.mem = vec![0; 1 << shift];
+                assert_eq!(rig.answer_draw(&line_in(mode), 320), 0);
+            }
+            for length in [0, 1, 8_192, 16_383, 16_385, 24_576, 524_287, 524_289, 1_048_576] {
+                let mut rig = Rig::<C>::new();
+                rig.mem = vec![0; length];
+                assert_eq!(rig.answer_draw(&line_in(mode), 320), 1);
+            }
+        }
+    }
+
+    fn states_too_short_for_a_drawn_line<C>() {
+        let rig = Rig::<C>::new();
+        let whole = line_in(SR);
+        let mut line = [UNDRAWN; 320];
+        let mut report = [999];
+        for (board, settings) in [(34, 20), (35, 19), (0, 20), (35, 0), (0, 0)] {
+            let (board, settings) = (&rig.board[..board], &whole[..settings]);
+            assert_eq!(C::draw(board, settings, &rig.mem, &mut line, &mut report), 15);
+            assert_eq!(C::draw(board, settings, &rig.mem, &mut [], &mut []), 15);
+            assert_eq!(C::draw(board, settings, &rig.mem[1..], &mut [], &mut []), 1);
+        }
+        assert_eq!((line, report), ([UNDRAWN; 320], [999]));
+
+        // Longer ones will do, whatever is behind.
+        let board = [&rig.board[..], &[u32::MAX]].concat();
+        let settings = [&whole[..], &[u32::MAX]].concat();
+        assert_eq!(C::draw(&board, &settings, &rig.mem, &mut line, &mut report), 0);
+        assert_eq!((line, report), ([CLEAR; 320], [320]));
+    }
+
+    fn settings_are_tested_as_a_state<C>() {
+        let rig = Rig::<C>::new();
+        // Also in an off line, and also words that are not drawn from.
+        for mode in [OFF, TEXT, SR, HR, LR] {
+            for (word, first, last) in SETTINGS_LIMITS {
+                for value in [first, last] {
+                    let mut settings = line_in(mode);
+                    settings[word] = value;
+                    assert_eq!(rig.answer_draw(&settings, 672), 0, "word {word}, {value}");
+                }
+                for value in [first.wrapping_sub(1), last + 1, last + 256, last | 0x8000_0000] {
+                    let mut settings = line_in(mode);
+                    settings[word] = value;
+                    assert_eq!(rig.answer_draw(&settings, 672), 15, "word {word}, {value}");
+                    assert_eq!(rig.answer_draw(&settings, 0), 15, "word {word}, {value}");
+                }
+            }
+            let mut settings = line_in(mode);
+            settings[at::FIELD_HEIGHT] = 4;
+            settings[at::FIELD] = 4;
+            assert_eq!(rig.answer_draw(&settings, 672), 15);
+            settings[at::FIELD] = 3;
+            assert_eq!(rig.answer_draw(&settings, 672), 0);
+        }
+    }
+
+    fn the_board_of_a_drawn_line_is_tested<C>() {
+        let limits = [
+            (at::VIDEO_CONTROL, 15),
+            (at::XDL_ADR, 524_287),
+            (at::BL_ADR, 524_287),
+            (at::P0, 255),
+            (at::IRQE, 1),
+            (at::IRQF, 1),
+            (at::LIST, 524_287),
+            (at::FLAGS, 2),
+            (at::CODE, 255),
+        ];
+        for (word, last) in limits {
+            let mut rig = Rig::<C>::new();
+            rig.board[word] = last;
+            assert_eq!(rig.answer_draw(&line_in(SR), 320), 0);
+            rig.board[word] = last + 1;
+            assert_eq!(rig.answer_draw(&line_in(SR), 320), 15);
+            assert_eq!(rig.answer_draw(&line_in(OFF), 0), 15);
+        }
+        for word in at::BLOCK..BOARD_WORDS {
+            let mut rig = Rig::<C>::new();
+            rig.board[word] = 8;
+            assert_eq!(rig.answer_draw(&line_in(SR), 320), 15);
+        }
+    }
+
+    fn entries_past_the_pixels_stay<C>() {
+        let mut rig = Rig::<C>::new();
+        rig.mem.fill(9);
+        let mut settings = line_in(LR);
+        settings[at::WIDTH] = 0;
+        let mut line = [UNDRAWN; 130];
+        let mut report = [999; 3];
+        assert_eq!(C::draw(&rig.board, &settings, &rig.mem, &mut line, &mut report), 0);
+        assert_eq!(line[..128], [265; 128]);
+        assert_eq!(line[128..], [UNDRAWN; 2]);
+        assert_eq!(report, [128, 999, 999]);
+    }
+
+    fn a_byte_is_a_pixel_in_sr_and_lr<C>() {
+        let mut rig = Rig::<C>::new();
+        rig.put(0x1000, &[0x00, 0x01, 0x0F, 0x80, 0x1F, 0xFF, 0x10, 0xF0]);
+        for mode in [SR, LR] {
+            let mut settings = line_in(mode);
+            settings[at::OVADR] = 0x1000;
+            let mut eight = |video_control| rig.draw_with(video_control, &settings)[..8].to_vec();
+            assert_eq!(eight(0), [CLEAR, 257, 271, 384, 287, 511, 272, 496]);
+            assert_eq!(eight(8), [CLEAR, 257, CLEAR, 384, CLEAR, CLEAR, 272, 496]);
+            assert_eq!(eight(4), [256, 257, 271, 384, 287, 511, 272, 496]);
+            assert_eq!(eight(12), [256, 257, 271, 384, 287, 511, 272, 496]);
+        }
+    }
+
+    fn a_byte_is_two_pixels_in_hr<C>() {
+        let mut rig = Rig::<C>::new();
+        rig.put(0x1000, &[0xF0, 0x1F, 0x2E]);
+        let mut settings = line_in(HR);
+        settings[at::OVADR] = 0x1000;
+        let mut six = |video_control| rig.draw_with(video_control, &settings)[..6].to_vec();
+        assert_eq!(six(0), [271, CLEAR, 257, 271, 258, 270]);
+        assert_eq!(six(8), [CLEAR, CLEAR, 257, CLEAR, 258, 270]);
+        assert_eq!(six(4), [271, 256, 257, 271, 258, 270]);
+        assert_eq!(six(12), [271, 256, 257, 271, 258, 270]);
+    }
+
+    fn every_colour_of_the_pixel_modes<C>() {
+        let mut rig = Rig::<C>::new();
+        let colours: Vec<u8> = (0..=255).collect();
+        rig.put(0, &colours);
+        let mut settings = line_in(SR);
+        settings[at::WIDTH] = 0;
+        settings[at::OV_PALETTE] = 3;
+        for video_control in 0..16 {
+            let line = rig.draw_with(video_control, &settings);
+            for (colour, pixel) in (0..).zip(line) {
+                let transparent = match video_control & 12 {
+                    0 => colour == 0,
+                    8 => colour == 0 || colour % 16 == 15,
+                    _ => false,
+                };
+                let shown = if transparent { CLEAR } else { 768 + colour };
+                assert_eq!(pixel, shown, "control {video_control}, colour {colour}");
+            }
+        }
+
+        // The low nibbles of HR are 0 to 15 again and again, the high ones each 16 times in a row.
+        settings[at::MODE] = HR;
+        for video_control in 0..16 {
+            let line = rig.draw_with(video_control, &settings);
+            for (number, pixel) in (0..).zip(line) {
+                let colour = if number % 2 == 0 { number / 32 } else { number / 2 % 16 };
+                let transparent = match video_control & 12 {
+                    0 => colour == 0,
+                    8 => colour == 0 || colour == 15,
+                    _ => false,
+                };
+                let shown = if transparent { CLEAR } else { 768 + colour };
+                assert_eq!(pixel, shown, "control {video_control}, pixel {number}");
+            }
+        }
+    }
+
+    fn the_overlay_palette_counts_256<C>() {
+        let mut rig = Rig::<C>::new();
+        rig.mem.fill(0x55);
+        for (palette, pixel) in [(0, 85), (1, 341), (2, 597), (3, 853)] {
+            for playfield in 0..4 {
+                let mut settings = line_in(SR);
+                settings[at::OV_PALETTE] = palette;
+                settings[at::PF_PALETTE] = playfield;
+                assert_eq!(rig.draw(&settings), [pixel; 320]);
+                settings[at::MODE] = HR;
+                assert_eq!(rig.draw(&settings), [pixel - 80; 640]);
+                // The font of 55h has the pixels 1, 3, 5 and 7 set, in colour 55h; the background is none.
+                settings[at::MODE] = TEXT;
+                assert_eq!(rig.draw(&settings), [CLEAR, pixel].repeat(320));
+            }
+        }
+    }
+
+    fn the_last_byte_of_each_line<C>() {
+        // Memory holds 1 up to there, and 2 from there on.
+        let bytes = [
+            (SR, [256, 320, 336], 1),
+            (LR, [128, 160, 168], 1),
+            (HR, [256, 320, 336], 2),
+        ];
+        for (mode, bytes, pixels) in bytes {
+            for (width, bytes) in (0..).zip(bytes) {
+                let mut rig = Rig::<C>::new();
+                rig.mem[..bytes - 1].fill(0x11);
+                rig.mem[bytes - 1..].fill(0x22);
+                let mut settings = line_in(mode);
+                settings[at::WIDTH] = width;
+                let (left, right) = if mode == HR { (257, 258) } else { (273, 290) };
+                let line = rig.draw(&settings);
+                let (first, last) = line.split_at(line.len() - pixels);
+                assert!(first.iter().all(|&pixel| pixel == left), "mode {mode}, width {width}");
+                assert!(last.iter().all(|&pixel| pixel == right), "mode {mode}, width {width}");
+            }
+        }
+    }
+
+    fn text_colours<C>() {
+        // Control, attribute, the pixel of a set bit, that of a clear one. Palette 2 is 512.
+        let known = [
+            (0, 0x00, 512, CLEAR),
+            (0, 0x80, 512, 640),
+            (0, 0x0F, 527, CLEAR),
+            (0, 0x8F, 527, 655),
+            (0, 0x7F, 639, CLEAR),
+            (0, 0xFF, 639, 767),
+            (8, 0x00, 512, CLEAR),
+            (8, 0x80, 512, 640),
+            (8, 0x0F, CLEAR, CLEAR),
+            (8, 0x8F, CLEAR, CLEAR),
+            (8, 0x7F, CLEAR, CLEAR),
+            (8, 0xFF, CLEAR, CLEAR),
+            (8, 0x1E, 542, CLEAR),
+            (8, 0x9E, 542, 670),
+        ];
+        for (control, attribute, set, clear) in known {
+            let found = character::<C>(control, attribute);
+            assert_eq!(found, (set, clear), "control {control}, attribute {attribute}");
+        }
+        let untransparent = [
+            (0x00, 512, 640),
+            (0x80, 512, 640),
+            (0x0F, 527, 640),
+            (0x8F, 527, 655),
+            (0x7F, 639, 640),
+            (0xFF, 639, 767),
+        ];
+        for (attribute, set, clear) in untransparent {
+            assert_eq!(character::<C>(4, attribute), (set, clear), "attribute {attribute}");
+            assert_eq!(character::<C>(12, attribute), (set, clear), "attribute {attribute}");
+        }
+    }
+
+    fn every_attribute<C>() {
+        for control in 0..16 {
+            for attribute in 0..=255 {
+                let fifteen = control & 12 == 8 && attribute % 16 == 15;
+                let colour = u16::from(attribute);
+                let set = if fifteen { CLEAR } else { 512 + colour % 128 };
+                let clear = match control & 4 {
+                    0 if fifteen || attribute < 128 => CLEAR,
+                    _ if attribute < 128 => 640,
+                    _ => 512 + colour,
+                };
+                let found = character::<C>(control, attribute);
+                assert_eq!(found, (set, clear), "control {control}, attribute {attribute}");
+            }
+        }
+    }
+
+    fn bit_7_of_the_font_is_on_the_left<C>() {
+        for (byte, places) in [
+            (0x80, &[0][..]),
+            (0x01, &[7]),
+            (0x40, &[1]),
+            (0xC1, &[0, 1, 7]),
+            (0x00, &[]),
+            (0xFF, &[0, 1, 2, 3, 4, 5, 6, 7]),
+        ] {
+            let mut rig = Rig::<C>::new();
+            // Character 1 of font 0 is at 8, the second one, 0, has no bit.
+            rig.put(0, &[0; 8]);
+            rig.put(8, &[byte]);
+            rig.put(0x1000, &[1, 0x85, 0, 0x86]);
+            let mut settings = line_in(TEXT);
+            settings[at::OVADR] = 0x1000;
+            let line = rig.draw(&settings);
+            let mut expected = [389; 8];
+            for &place in places {
+                expected[place] = 261;
+            }
+            assert_eq!(line[..8], expected);
+            assert_eq!(line[8..16], [390; 8]);
+        }
+    }
+
+    fn the_character_comes_before_its_attribute<C>() {
+        let mut rig = Rig::<C>::new();
+        // The byte of character 2 in font 3 is at 6,160, that of character 132 at 7,200.
+        rig.put(6_160, &[0xF0]);
+        rig.put(7_200, &[0x0F]);
+        rig.put(0x1000, &[2, 132, 132, 130]);
+        let mut settings = line_in(TEXT);
+        settings[at::OVADR] = 0x1000;
+        settings[at::FONT] = 3;
+        let line = rig.draw(&settings);
+        assert_eq!(line[..8], [260, 260, 260, 260, 388, 388, 388, 388]);
+        assert_eq!(line[8..16], [386, 386, 386, 386, 258, 258, 258, 258]);
+    }
+
+    fn the_font_line_is_the_text_counter<C>() {
+        let mut rig = Rig::<C>::new();
+        // Character 5 of font 2: 4,096 and 40. On line k the bit k is set, so the pixel 7 - k.
+        rig.put(4_136, &[1, 2, 4, 8, 16, 32, 64, 128]);
+        rig.put(0x2000, &[5, 0x83]);
+        for counter in 0..8 {
+            for vscroll in 0..8 {
+                let mut settings = line_in(TEXT);
+                settings[at::OVADR] = 0x2000;
+                settings[at::FONT] = 2;
+                settings[at::TEXT] = counter;
+                settings[at::VSCROLL] = vscroll;
+                let mut expected = [387; 8];
+                expected[7 - counter as usize] = 259;
+                assert_eq!(rig.draw(&settings)[..8], expected, "{counter}, vscroll {vscroll}");
+            }
+        }
+    }
+
+    fn the_last_line_of_the_last_font<C>() {
+        // Font 255, character 255, line 7: the last byte there is.
+        for shift in 14..=19 {
+            let mut rig = Rig::<C>::new();
+            rig.mem = vec![0; 1 << shift];
+            rig.put(524_287, &[0x81]);
+            rig.put(0x1000, &[255, 0x84]);
+            let mut settings = line_in(TEXT);
+            settings[at::OVADR] = 0x1000;
+            settings[at::FONT] = 255;
+            settings[at::TEXT] = 7;
+            let eight = [260, 388, 388, 388, 388, 388, 388, 260];
+            assert_eq!(rig.draw(&settings)[..8], eight);
+        }
+    }
+
+    fn fonts_begin_at_multiples_of_2048<C>() {
+        let mut rig = Rig::<C>::new();
+        rig.mem = vec![0; 524_288];
+        for font in 0..=255 {
+            rig.put(2_048 * font + 8, &[font as u8]);
+        }
+        rig.put(100, &[1, 0x80]);
+        for font in 0..=255 {
+            let mut settings = line_in(TEXT);
+            settings[at::OVADR] = 100;
+            settings[at::FONT] = font;
+            let line = rig.draw(&settings);
+            let bits = line[..8].iter().fold(0, |bits, &pixel| 2 * bits + u32::from(pixel == 256));
+            assert_eq!(bits, font);
+        }
+    }
+
+    fn text_scrolls_to_the_left<C>() {
+        // Character k has its first column in colour k, the others in k + 128.
+        let rig = numbered_text::<C>();
+        for hscroll in 0..8 {
+            let mut settings = line_in(TEXT);
+            settings[at::OVADR] = 0x1000;
+            settings[at::HSCROLL] = hscroll;
+            for (width, count) in [(0, 512), (1, 640), (2, 672)] {
+                settings[at::WIDTH] = width;
+                let line = rig.draw(&settings);
+                assert_eq!(line.len(), count);
+                for (column, &pixel) in (hscroll as u16..).zip(&line) {
+                    let first = if column % 8 == 0 { 256 } else { 384 };
+                    assert_eq!(pixel, first + column / 8, "hscroll {hscroll}, column {column}");
+                }
+            }
+        }
+    }
+
+    fn the_ends_of_scrolled_text<C>() {
+        let rig = numbered_text::<C>();
+        let mut settings = line_in(TEXT);
+        settings[at::OVADR] = 0x1000;
+        // Width, hscroll, the first two pixels, the last one: by hand.
+        for (width, hscroll, first, second, last) in [
+            (0, 0, 256, 384, 447),
+            (0, 1, 384, 384, 320),
+            (0, 7, 384, 257, 448),
+            (1, 0, 256, 384, 463),
+            (1, 1, 384, 384, 336),
+            (2, 0, 256, 384, 467),
+            (2, 1, 384, 384, 340),
+            (2, 7, 384, 257, 468),
+        ] {
+            settings[at::WIDTH] = width;
+            settings[at::HSCROLL] = hscroll;
+            let line = rig.draw(&settings);
+            let ends = [line[0], line[1], line[line.len() - 1]];
+            assert_eq!(ends, [first, second, last], "width {width}, hscroll {hscroll}");
+        }
+    }
+
+    fn one_more_character_with_a_scroll_only<C>() {
+        for (width, characters) in [(0, 64), (1, 80), (2, 84)] {
+            for hscroll in 0..8 {
+                let mut settings = line_in(TEXT);
+                settings[at::OVADR] = 0x1000;
+                settings[at::WIDTH] = width;
+                settings[at::HSCROLL] = hscroll;
+                let mut rig = numbered_text::<C>();
+                let line = rig.draw(&settings);
+                // Another attribute there shows in as many pixels as are scrolled.
+                rig.mem[0x1000 + 2 * characters + 1] = 0xFE;
+                let other = rig.draw(&settings);
+                let same = line.len() - hscroll as usize;
+                assert_eq!(line[..same], other[..same]);
+                assert!(line[same..].iter().zip(&other[same..]).all(|(one, two)| one != two));
+                // What is behind it shows nowhere.
+                rig.mem[0x1000 + 2 * characters + 2..0x2000].fill(0x99);
+                assert_eq!(rig.draw(&settings), other);
+            }
+        }
+    }
+
+    fn pixel_modes_do_not_scroll<C>() {
+        let mut rig = Rig::<C>::new();
+        let bytes: Vec<u8> = (0..=255).rev().cycle().take(1_000).collect();
+        rig.put(0x1000, &bytes);
+        for mode in [SR, HR, LR] {
+            let mut settings = line_in(mode);
+            settings[at::OVADR] = 0x1000;
+            let line = rig.draw(&settings);
+            for hscroll in 0..8 {
+                for vscroll in [0, 3, 7] {
+                    settings[at::HSCROLL] = hscroll;
+                    settings[at::VSCROLL] = vscroll;
+                    assert_eq!(rig.draw(&settings), line, "mode {mode}");
+                }
+            }
+        }
+    }
+
+    fn lines_wrap_at_the_end_of_memory<C>() {
+        for shift in 14..=19 {
+            let length = 1 << shift;
+            for address in [length - 1, (2 * length - 1) % 524_288, 524_287] {
+                let mut rig = Rig::<C>::new();
+                rig.mem = vec![0; length as usize];
+                rig.mem[length as usize - 1] = 0x5A;
+                rig.mem[0] = 0x83;
+                rig.mem[1] = 0x04;
+                rig.mem[2] = 0x85;
+                // Characters 5Ah and 4 of font 1, at 2,048.
+                rig.mem[2_768] = 0x80;
+                rig.mem[2_080] = 0x01;
+                let mut settings = line_in(SR);
+                settings[at::OVADR] = address;
+                settings[at::FONT] = 1;
+                assert_eq!(rig.draw(&settings)[..4], [346, 387, 260, 389]);
+                settings[at::MODE] = LR;
+                assert_eq!(rig.draw(&settings)[..4], [346, 387, 260, 389]);
+                settings[at::MODE] = HR;
+                assert_eq!(rig.draw(&settings)[..6], [261, 266, 264, 259, CLEAR, 260]);
+                settings[at::MODE] = TEXT;
+                let line = rig.draw(&settings);
+                assert_eq!(line[..8], [259, 387, 387, 387, 387, 387, 387, 387]);
+                assert_eq!(line[8..16], [389, 389, 389, 389, 389, 389, 389, 261]);
+            }
+        }
+    }
+
+    fn a_line_lies_at_its_address_modulo_l<C>() {
+        let mut rig = Rig::<C>::new();
+        let bytes: Vec<u8> = (0..=255).cycle().take(700).collect();
+        rig.put(0x1234, &bytes);
+        rig.put(0x3800, &bytes);
+        for mode in [TEXT, SR, HR, LR] {
+            let mut settings = line_in(mode);
+            settings[at::OVADR] = 0x1234;
+            settings[at::FONT] = 7;
+            let line = rig.draw(&settings);
+            // 31 times 16,384 is 7C000h, and 16,384 are 8 fonts.
+            settings[at::OVADR] = 0x7D234;
+            settings[at::FONT] = 255;
+            assert_eq!(rig.draw(&settings), line, "mode {mode}");
+        }
+    }
+
+    fn the_map_is_not_drawn_from<C>() {
+        let mut rig = numbered_text::<C>();
+        rig.put(0x3000, &[0x35; 0x800]);
+        for mode in [OFF, TEXT, SR, HR, LR] {
+            let mut settings = line_in(mode);
+            settings[at::OVADR] = 0x1000;
+            settings[at::OV_PALETTE] = 2;
+            settings[at::MAPADR] = 0x3000;
+            settings[at::MAPSTEP] = 160;
+            let line = rig.draw(&settings);
+            settings[at::MAP] = 1;
+            assert_eq!(rig.draw(&settings), line, "mode {mode}");
+        }
+    }
+
+    fn what_a_line_is_not_drawn_from<C>() {
+        let mut rig = numbered_text::<C>();
+        let others = [
+            (at::OVSTEP, 4_095),
+            (at::VSCROLL, 7),
+            (at::MAP, 1),
+            (at::MAPADR, 524_287),
+            (at::MAPSTEP, 4_095),
+            (at::MAP_HSCROLL, 31),
+            (at::MAP_VSCROLL, 31),
+            (at::FIELD_WIDTH, 32),
+            (at::FIELD_HEIGHT, 32),
+            (at::FIELD, 7),
+            (at::PF_PALETTE, 3),
+            (at::PRIORITY, 0),
+            (at::ORIGIN, 0),
+        ];
+        let text = [(at::HSCROLL, 7), (at::FONT, 255), (at::TEXT, 7)];
+        for mode in [TEXT, SR, HR, LR] {
+            let mut settings = line_in(mode);
+            settings[at::OVADR] = 0x1000;
+            let line = rig.draw(&settings);
+            for (word, value) in others {
+                let before = settings[word];
+                settings[word] = value;
+                assert_eq!(rig.draw(&settings), line, "mode {mode}, word {word}");
+                settings[word] = before;
+            }
+            for (word, value) in text {
+                let before = settings[word];
+                settings[word] = value;
+                assert_eq!(rig.draw(&settings) == line, mode != TEXT, "mode {mode}, word {word}");
+                settings[word] = before;
+            }
+            // And of the board, all but VIDEO_CONTROL.
+            rig.board = busy_board();
+            assert_eq!(rig.draw(&settings), line, "mode {mode}");
+            rig.board = [0; BOARD_WORDS];
+        }
+    }
+
+    fn two_bits_of_video_control_count<C>() {
+        let mut rig = Rig::<C>::new();
+        let bytes: Vec<u8> = (0..=255).cycle().take(700).collect();
+        rig.put(0, &bytes);
+        for mode in [TEXT, SR, HR, LR] {
+            let settings = line_in(mode);
+            let [zero, both, none] = [0, 8, 4].map(|control| rig.draw_with(control, &settings));
+            assert!(zero != both && zero != none && both != none, "mode {mode}");
+            for control in 0..16 {
+                let line = rig.draw_with(control, &settings);
+                // The display list's switch, bit 0, does not matter, and neither does xcolor.
+                let same = match control {
+                    0..=3 => &zero,
+                    8..=11 => &both,
+                    _ => &none,
+                };
+                assert_eq!(line, *same, "mode {mode}, control {control}");
+            }
+        }
+    }
+
+    fn video_control_counts_as_it_is_now<C>() {
+        let mut rig = Rig::<C>::with_xdl_at(0x3000, &[0x42, 0x80, 0, 0x10, 0, 0, 0]);
+        let settings = rig.line();
+        assert_eq!(rig.draw(&settings), [CLEAR; 320]);
+        rig.write(0x40, 0xF4);
+        assert_eq!(rig.draw(&settings), [256; 320]);
+        rig.reset();
+        assert_eq!(rig.draw(&settings), [CLEAR; 320]);
+    }
+
+    fn scrolled_text_of_a_frame<C>() {
+        // Ten lines of text from 1000h, a step of A0h, vscroll 3, font 1.
+        let xdl = [0xE1, 0x81, 9, 0, 0x10, 0, 0xA0, 0, 0, 3, 1];
+        let mut rig = Rig::<C>::with_xdl_at(0x3000, &xdl);
+        // Character 1 goes from right to left, character 2 from left to right.
+        rig.put(2_056, &[1, 2, 4, 8, 16, 32, 64, 128]);
+        rig.put(2_064, &[128, 64, 32, 16, 8, 4, 2, 1]);
+        rig.put(0x1000, &[1, 0x85]);
+        rig.put(0x10A0, &[2, 0x85]);
+        // The first row has its last five lines, 3 to 7; then the second begins.
+        for place in [4, 3, 2, 1, 0, 0, 1, 2, 3, 4] {
+            let settings = rig.line();
+            let mut expected = [389; 8];
+            expected[place] = 261;
+            assert_eq!(rig.draw(&settings)[..8], expected);
+        }
+        let settings = rig.line();
+        assert_eq!(rig.draw(&settings), []);
+    }
+
+    fn a_frame_not_switched_on_shows_nothing<C>() {
+        let mut rig = Rig::<C>::new();
+        rig.start();
+        let settings = rig.line();
+        assert_eq!(settings, line_in(OFF));
+        assert_eq!(rig.answer_draw(&settings, 0), 0);
     }
 }

@@ -9,7 +9,7 @@ use std::time::Instant;
 use twin::card::{Card, BOARD_WORDS, FRAME_WORDS, SETTINGS_WORDS};
 use twin::desk::Desk;
 use twin::random::Random;
-use twin::twin::{Frame, Twin, Video};
+use twin::twin::{Frame, Mode, Settings, Twin, Video, MAX_PIXELS};
 
 const REPETITIONS: usize = 41;
 const BUDGET: u32 = 1_000_000;
@@ -23,6 +23,8 @@ struct Lent {
     settings: [u32; SETTINGS_WORDS],
     mem: Vec<u8>,
     out: Vec<u8>,
+    /// 240 lent lines, each behind the other.
+    screen: Vec<u16>,
 }
 
 /// What is measured.
@@ -33,6 +35,8 @@ enum Work {
     Lines([u32; FRAME_WORDS]),
     /// The same, but the twin keeps its frame in a type of its own.
     OwnLines([u32; FRAME_WORDS]),
+    /// Lines drawn from their settings, on a new board.
+    Draw(Vec<[u32; SETTINGS_WORDS]>),
     Compile(Vec<u8>),
 }
 
@@ -54,6 +58,7 @@ impl Workload {
             settings: [0; SETTINGS_WORDS],
             mem: self.mem.clone(),
             out: vec![0; 8_192],
+            screen: vec![0; 240 * MAX_PIXELS],
         }
     }
 
@@ -73,6 +78,16 @@ impl Workload {
                 for _ in 0..240 {
                     assert_eq!(
                         C::next_line(&mut lent.frame, &lent.mem, &mut lent.settings),
+                        0
+                    );
+                }
+                240
+            }
+            Work::Draw(lines) => {
+                let rows = lent.screen.chunks_exact_mut(MAX_PIXELS);
+                for (settings, row) in lines.iter().zip(rows) {
+                    assert_eq!(
+                        C::draw(&lent.board, settings, &lent.mem, row, &mut lent.report),
                         0
                     );
                 }
@@ -290,6 +305,29 @@ fn records() -> (Vec<u8>, [u32; FRAME_WORDS]) {
     (mem, frame)
 }
 
+/// The 240 lines of a screen at 20000h, width 1, over random bytes: so many bytes in a row, and so many lines of the screen
+/// for each row.
+fn drawing(name: &'static str, mode: Mode, hscroll: u8, bytes: u32, lines: u32) -> Workload {
+    let mut mem = vec![0; 524_288];
+    Random::new(10).fill(&mut mem);
+    let line = |number: u32| Settings {
+        mode,
+        overlay_address: 0x20000 + number / lines * bytes,
+        overlay_step: bytes as u16,
+        hscroll,
+        font: 0x20,
+        text_counter: (number % lines) as u8,
+        ..Settings::default()
+    };
+    Workload {
+        name,
+        unit: "lines",
+        passes: 20,
+        mem,
+        work: Work::Draw((0..240).map(|number| line(number).to_words()).collect()),
+    }
+}
+
 /// 240 items of one line: a full band, then running on, and so on.
 fn plan() -> Vec<u8> {
     let mut r = Random::new(9);
@@ -387,6 +425,9 @@ fn workloads() -> Vec<Workload> {
             mem,
             work: Work::OwnLines(frame),
         },
+        drawing("drawn line, SR, 320 pixels", Mode::Sr, 0, 320, 1),
+        drawing("drawn line, HR, 640 pixels", Mode::Hr, 0, 320, 1),
+        drawing("drawn line, text, 640, hscroll 3", Mode::Text, 3, 160, 8),
         Workload {
             name: "plan of 240 items",
             unit: "items",

@@ -16,11 +16,12 @@ pub enum Refusal {
     Room = 13,
     Address = 14,
     State = 15,
+    ShortLine = 17,
 }
 
 impl Refusal {
     /// The refusal sheet.
-    pub const SHEET: [Refusal; 14] = [
+    pub const SHEET: [Refusal; 15] = [
         Refusal::Board,
         Refusal::Budget,
         Refusal::Register,
@@ -35,6 +36,7 @@ impl Refusal {
         Refusal::Room,
         Refusal::Address,
         Refusal::State,
+        Refusal::ShortLine,
     ];
 
     pub fn number(self) -> u32 {

@@ -36,6 +36,15 @@ impl<B: Deref<Target = [u8]>> Video<B> {
     pub fn read(&self, address: u32) -> u8 {
         self.cells[self.cell_of(address)]
     }
+
+    /// So many bytes from an address on, no more than there are: those up to the memory's end, and the rest, from its start.
+    pub fn bytes(&self, address: u32, count: usize) -> (&[u8], &[u8]) {
+        let upper = &self.cells[self.cell_of(address)..];
+        match upper.get(..count) {
+            Some(all) => (all, &[]),
+            None => (upper, &self.cells[..count - upper.len()]),
+        }
+    }
 }
 
 impl<B: DerefMut<Target = [u8]>> Video<B> {

@@ -322,6 +322,25 @@ impl Card for Twin {
         })
     }
 
+    fn draw(
+        board: &[u32],
+        settings: &[u32],
+        mem: &[u8],
+        line: &mut [u16],
+        report: &mut [u32],
+    ) -> u32 {
+        answer(|| {
+            let video = Video::new(mem)?;
+            let board = Board::from_words(state(board)?)?;
+            let settings = Settings::from_words(state(settings)?)?;
+            let line = line.get_mut(..settings.pixels());
+            let line = line.ok_or(Refusal::ShortLine)?;
+            *room(report)? = [line.len() as u32];
+            board.draw(&settings, &video, line);
+            Ok(())
+        })
+    }
+
     fn compile(plan: &[u8], out: &mut [u8], report: &mut [u32]) -> u32 {
         answer(|| {
             let xdl = super::xdl(plan)?;

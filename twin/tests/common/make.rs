@@ -1,7 +1,7 @@
 //! Random inputs: memory, lists, XDLs, plans and states, good and damaged.
 #![allow(dead_code)]
 
-use twin::card::{BOARD_WORDS, FRAME_WORDS};
+use twin::card::{BOARD_WORDS, FRAME_WORDS, SETTINGS_WORDS};
 use twin::random::Random;
 
 use super::{at, NO_RECORD};
@@ -63,6 +63,29 @@ pub fn memory(r: &mut Random, length: usize) -> Vec<u8> {
             }
         }
         _ => r.fill(&mut mem),
+    }
+    mem
+}
+
+/// Memory for pixels: many bytes have a nibble of 0 or of 15, or are 0, so that each kind of colour and attribute is
+/// often there, transparent ones too.
+pub fn picture(r: &mut Random, length: usize) -> Vec<u8> {
+    let mut mem = vec![0; length];
+    r.fill(&mut mem);
+    for eight in mem.chunks_mut(8) {
+        let mut kinds = r.long();
+        for cell in eight {
+            *cell = match kinds % 8 {
+                0 => 0,
+                1 => *cell & 0x80,
+                2 => *cell & 0xF0,
+                3 => *cell | 0x0F,
+                4 => *cell & 0x0F,
+                5 => *cell | 0xF0,
+                _ => *cell,
+            };
+            kinds /= 8;
+        }
     }
     mem
 }
@@ -437,6 +460,17 @@ pub fn frame(r: &mut Random) -> [u32; FRAME_WORDS] {
         r.below(2),
         r.pick(&[0, 1, 1, 1]),
     ]
+}
+
+/// Sound settings. Their pixels are often on both sides of the end of memory that has a length.
+pub fn settings(r: &mut Random, length: usize) -> [u32; SETTINGS_WORDS] {
+    let mut words = [0; SETTINGS_WORDS];
+    words.copy_from_slice(&frame(r)[..SETTINGS_WORDS]);
+    if r.chance(1, 3) && length != 0 {
+        let end = r.below(524_288) / length as u32 * length as u32;
+        words[at::OVADR] = (end + 524_288 - r.below(400)) % 524_288;
+    }
+    words
 }
 
 /// A word at or near the end of some range.

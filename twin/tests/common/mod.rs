@@ -457,6 +457,43 @@ impl<C: Card> Rig<C> {
         answer
     }
 
+    /// The pixels of a line. Entries past them stay, and so does the report's second word.
+    pub fn draw(&self, settings: &[u32]) -> Vec<u16> {
+        let mut line = vec![UNDRAWN; 680];
+        let mut report = [999; 2];
+        assert_eq!(self.lend_line(settings, &mut line, &mut report), 0);
+        assert_eq!(report[1], 999);
+        let rest = line.split_off(report[0] as usize);
+        assert!(rest.iter().all(|&entry| entry == UNDRAWN));
+        line
+    }
+
+    /// The pixels of a line with VIDEO_CONTROL.
+    pub fn draw_with(&mut self, video_control: u8, settings: &[u32]) -> Vec<u16> {
+        self.write(0x40, video_control);
+        self.draw(settings)
+    }
+
+    pub fn answer_draw(&self, settings: &[u32], entries: usize) -> u32 {
+        let mut line = vec![UNDRAWN; entries];
+        let mut report = [999];
+        let answer = self.lend_line(settings, &mut line, &mut report);
+        if answer != 0 {
+            assert!(line.iter().all(|&entry| entry == UNDRAWN));
+            assert_eq!(report, [999]);
+        }
+        answer
+    }
+
+    /// Draws to a lent line. Whatever the answer is, board, settings and memory stay.
+    fn lend_line(&self, settings: &[u32], line: &mut [u16], report: &mut [u32]) -> u32 {
+        let before = (self.board, settings.to_vec(), self.mem.clone());
+        let answer = C::draw(&self.board, settings, &self.mem, line, report);
+        assert_eq!((self.board, settings), (before.0, &before.1[..]));
+        assert!(self.mem == before.2);
+        answer
+    }
+
     pub fn answer_install(&mut self, count: usize, address: u32) -> u32 {
         let mem = self.mem.clone();
         let answer = C::install(&mut self.mem, &vec![0xAB; count], address);
@@ -466,6 +503,25 @@ impl<C: Card> Rig<C> {
         answer
     }
 }
+
+/// The settings of a line as at the top of the screen, but for its mode: width 1, palette 1.
+pub fn line_in(mode: u32) -> [u32; SETTINGS_WORDS] {
+    let mut settings = [0; SETTINGS_WORDS];
+    settings[at::MODE] = mode;
+    settings[at::FIELD_WIDTH] = 8;
+    settings[at::FIELD_HEIGHT] = 8;
+    settings[at::WIDTH] = 1;
+    settings[at::OV_PALETTE] = 1;
+    settings[at::PRIORITY] = 255;
+    settings[at::ORIGIN] = NO_RECORD;
+    settings
+}
+
+/// The pixel of a transparent colour.
+pub const CLEAR: u16 = 65_535;
+
+/// What a lent line holds before it is drawn to: no pixel is this.
+pub const UNDRAWN: u16 = 7_777;
 
 /// The XDL of a plan, or the refusal's number and item.
 pub fn compile<C: Card>(plan: &[u8]) -> Result<Vec<u8>, (u32, u32)> {
