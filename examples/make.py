@@ -1,11 +1,12 @@
 #!/usr/bin/env python3
-"""make.py: writes the example plans (NAME.plan) from their texts (NAME.txt) beside it, and the plans that crates/planxdl_cases runs.
+"""make.py: writes the example plans (NAME.plan) from their texts (NAME.txt) beside it, the video memory of those that planpic draws (NAME.mem),
+and the plans and memories that crates/planxdl_cases and crates/planpic run.
 
     examples/make.py           writes them; the same bytes each time
     examples/make.py --check   writes nothing, prints each file that is not what it would write, and ends with 1 where there is one
     examples/make.py --help    prints this
 
-It is run from anywhere. A field that is not named has the value that examples/plan gives it."""
+It is run from anywhere. A field that is not named has the value that examples/plan gives it. examples/memory.py makes the memory."""
 import importlib.machinery
 import importlib.util
 import pathlib
@@ -26,6 +27,7 @@ def beside(name):
 
 
 text = beside("plan")
+memory = beside("memory.py")
 
 
 def full(lines=1, mode=OFF, address=0, step=0, **words):
@@ -37,6 +39,8 @@ def running(lines=1, hscroll=0, vscroll=0, font=0, width=1, palettes=1, priority
 
 
 EXAMPLES = ["text_screen", "picture_status", "scrolled_band", "mapped_screen"]
+# plans with the memory that they show: crates/planpic draws them, and crates/planxdl_cases does without them
+PICTURES = {"small_screen": memory.memory}
 
 TOP = dict(lines=1, mode=LR, address=524287, step=4095, hscroll=7, vscroll=7, font=255, map=1, mapaddress=524287, mapstep=4095,
            maphscroll=31, mapvscroll=31, fieldwidth=32, fieldheight=32, width=2, palettes=15, priority=255)
@@ -113,15 +117,23 @@ def files():
     for name, plan in (CASES | examples).items():
         yield cases / "data" / name, plan
     yield cases / "args", "".join(name + "\n" for name in CASES | examples).encode()
+    for name, made in PICTURES.items():
+        plan, held = read(HERE / (name + ".txt")), made()
+        for folder in (HERE, CRATES / "planpic" / "data"):
+            yield folder / (name + ".plan"), plan
+            yield folder / (name + ".mem"), held
 
 
 def check():
     """what is not as it would be written; and plans of crates that have an example's name, but other bytes"""
     wrong = [path for path, held in files() if not path.is_file() or path.read_bytes() != held]
-    for name in EXAMPLES:
+    names = EXAMPLES + list(PICTURES)
+    for name in names:
         wrong += [path for path in CRATES.glob(f"*/data/{name}.plan") if path.read_bytes() != read(HERE / (name + ".txt"))]
-    wrong += [path for path in HERE.glob("*.txt") if path.stem not in EXAMPLES] + [path for path in HERE.glob("*.plan") if path.stem not in EXAMPLES]
-    for path in wrong:
+    # what nobody makes
+    wrong += [path for end in ("txt", "plan") for path in HERE.glob("*." + end) if path.stem not in names]
+    wrong += [path for path in HERE.glob("*.mem") if path.stem not in PICTURES]
+    for path in dict.fromkeys(wrong):
         print(f"not as make.py writes it: {path.relative_to(HERE.parent)}")
     return 1 if wrong else 0
 
@@ -134,7 +146,7 @@ def main():
         print(__doc__, file=sys.stdout if asked else sys.stderr)
         return 0 if asked else 2
     for path, held in files():
-        path.parent.mkdir(exist_ok=True)
+        path.parent.mkdir(parents=True, exist_ok=True)
         path.write_bytes(held)
     return 0
 

@@ -1,16 +1,18 @@
-/* The desk board from C: a fill by the blitter, then a plan compiled, installed and shown.
+/* The desk board from C: a fill by the blitter, then a plan compiled, installed and shown, and its first line drawn.
  *
  * From any folder, examples/c/run of this repository builds the archive for this machine (tools/archive: minutes the first time), then
  * this program, and runs it. It prints
  *
  *   fill: 5 ticks, 25 accesses, byte 5A
- *   line: 22 bytes, mode 2, address 1000, step 320, record 200
+ *   line: 22 bytes, mode 2, address 2000, step 320, record 200
+ *   drawn: 320 pixels: 346 346 346 346 and 65535
  */
 #include <stdio.h>
 #include "deskboard.h"
 
 static uint32_t board[DESKBOARD_BOARD_WORDS], frame[DESKBOARD_FRAME_WORDS], line[DESKBOARD_SETTINGS_WORDS];
 static uint8_t mem[DESKBOARD_MEMORY_16K];
+static uint16_t pixels[DESKBOARD_LINE_PIXELS];
 
 /* Writes the three bytes of an address register, from its first offset on. */
 static uint32_t write_address(uint32_t offset, uint32_t address)
@@ -44,11 +46,11 @@ static uint32_t fill(void)
     return refused;
 }
 
-/* One full band of one SR line, and its first line. */
+/* One full band of one SR line, where the fill is, and its first line. */
 static uint32_t show(void)
 {
     static const uint8_t plan[] = {
-        23, 0, 1, 0, 1, 2, 0x00, 0x10, 0x00, 0x40, 0x01, 0, 0, 0, 0, 0, 0, 0, 0, 0, 0, 0, 8, 1, 1, 1, 255,
+        23, 0, 1, 0, 1, 2, 0x00, 0x20, 0x00, 0x40, 0x01, 0, 0, 0, 0, 0, 0, 0, 0, 0, 0, 0, 8, 1, 1, 1, 255,
     };
     uint8_t list[DESKBOARD_LIST_BYTES];
     uint32_t report[DESKBOARD_COMPILE_WORDS];
@@ -70,6 +72,16 @@ static uint32_t show(void)
     return refused;
 }
 
+/* The line as pixels: palette 1, colour 5A, four times, and then colour 0, which is transparent. */
+static uint32_t draw(void)
+{
+    uint32_t report[DESKBOARD_DRAW_WORDS];
+    uint32_t refused = deskboard_draw(DESKBOARD_LENT(board), DESKBOARD_LENT(line), DESKBOARD_LENT(mem), DESKBOARD_LENT(pixels), DESKBOARD_LENT(report));
+    if (refused == 0)
+        printf("drawn: %u pixels: %u %u %u %u and %u\n", (unsigned)report[DESKBOARD_REPORT_PIXELS], pixels[0], pixels[1], pixels[2], pixels[3], pixels[4]);
+    return refused;
+}
+
 int main(void)
 {
     uint32_t refused = deskboard_new(DESKBOARD_LENT(board));
@@ -77,6 +89,8 @@ int main(void)
         refused = fill();
     if (refused == 0)
         refused = show();
+    if (refused == 0)
+        refused = draw();
     if (refused != 0)
         printf("refused %u item %u\n", (unsigned)DESKBOARD_NUMBER(refused), (unsigned)DESKBOARD_ITEM(refused));
     return refused != 0;
