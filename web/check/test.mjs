@@ -1,0 +1,409 @@
+// test.mjs TOP PAGE.html [FOLDER]: works with the page in a headless Chromium, from the disk and from a server, and compares what it shows with what the
+// project's pages, examples and expected outputs say. Screenshots of the four parts go to FOLDER.
+import { spawnSync } from "node:child_process";
+import { createServer } from "node:http";
+import { mkdirSync, mkdtempSync, readdirSync, readFileSync, rmSync, writeFileSync } from "node:fs";
+import { tmpdir } from "node:os";
+import { join, resolve } from "node:path";
+import { pathToFileURL } from "node:url";
+import { Browser, sleep } from "./browser.mjs";
+
+const [top, page, shots] = process.argv.slice(2).map((path) => resolve(path)), url = pathToFileURL(page).href;
+const text = (name) => readFileSync(join(top, name), "utf8"), example = (name) => join(top, "examples", name);
+let tried = 0, failed = 0;
+function is(what, got, want) {
+  tried++;
+  if (JSON.stringify(got) === JSON.stringify(want)) return;
+  failed++;
+  console.log(`${what}:\n  got  ${JSON.stringify(got)}\n  want ${JSON.stringify(want)}`);
+}
+
+const b = await Browser.open(), room = mkdtempSync(join(tmpdir(), "desk-test-"));
+// ---- hands and eyes
+const quoted = JSON.stringify;
+const said = (id) => b.run(`document.getElementById("${id}").textContent`);
+const click = (css) => b.run(`document.querySelector(${quoted(css)}).click()`);
+const set = (css, value) => b.run(`(() => { const e = document.querySelector(${quoted(css)}); e.value = ${quoted(String(value))}; e.dispatchEvent(new Event("input", { bubbles: true })); e.dispatchEvent(new Event("change", { bubbles: true })); })()`);
+const cell = (item, field) => `[data-at="${item}:${field}"] > *`;
+const rows = (id) => b.run(`[...document.querySelectorAll("#${id} div")].map((row) => [...row.children].map((byte) => byte.textContent).join(" "))`);
+const focus = (css) => b.run(`document.querySelector(${quoted(css)}).focus()`);
+const begins = async (what, id, want) => is(what, (await said(id)).slice(0, want.length), want);
+const words = (n, ...names) => b.run(`(() => { const H = deskPage.names, line = deskPage.bench.lines()[${n}].words; return ${quoted(names)}.map((name) => line[H["LINE_" + name]]); })()`);
+const board = (name) => b.run(`deskPage.bench.word[deskPage.names["BOARD_${name}"]]`);
+const part = (name) => click(`#tab-${name}`);
+const shot = async (name) => shots && b.shot(join(shots, `${name}.png`));
+
+// What examples/README.md says that planxdl prints for an example: its list, a row a record.
+function listOf(name) {
+  const at = text("examples/README.md").split(`## ${name}.plan`)[1];
+  return at.match(/```\nXDL \d+\n([0-9A-F \n]*)```/)[1].trim().split("\n");
+}
+
+async function plan() {
+  for (const name of readdirSync(example("")).filter((each) => each.endsWith(".plan")).map((each) => each.slice(0, -5))) {
+    await set("#examples", name);
+    is(`the list of ${name}`, await rows("listhex"), listOf(name));
+    is(`the bytes of ${name}`, (await rows("planhex")).join(" ").toLowerCase().replace(/ /g, ""), readFileSync(example(`${name}.plan`)).toString("hex"));
+  }
+  await set("#examples", "scrolled_band");
+  await set(cell(1, "hscroll"), "8");
+  await begins("hscroll 8", "verdict", "refused 9 item 1 (field) A field of the item is out of its range.");
+  is("the field is named", (await said("verdict")).includes("hscroll is 8, its range is 0 to 7"), true);
+  is("the item is marked", await b.run(`[...document.querySelectorAll("#items tbody tr")].map((row) => row.classList.contains("faulty"))`), [false, true, false]);
+  is("the field is marked", await b.run(`[...document.querySelectorAll("#items [aria-invalid=true]")].map((input) => input.closest("td").dataset.at)`), ["1:hscroll"]);
+  await begins("memory keeps its list", "benchsay", "The plan is refused");
+  if (shots) await b.shot(join(room, "refused.png"));
+  await set(cell(1, "hscroll"), "$100");
+  await begins("no byte", "verdict", "not taken item 1, hscroll: '$100' is no number of one byte");
+  await set(cell(1, "hscroll"), "7h");
+  await begins("7h", "verdict", "XDL 38 240 of 240 lines.");
+  await set(cell(2, "lines"), "81");
+  await begins("241 lines", "verdict", "refused 11 item 2 (lines)");
+  await click("[data-do=undo]");
+  await begins("undone", "verdict", "XDL 38 240 of 240 lines.");
+  await focus(cell(0, "lines"));
+  await b.key("ArrowDown");
+  await b.key("ArrowDown");
+  is("down twice", await b.run("document.activeElement.closest('td').dataset.at"), "2:lines");
+  await click("[data-do=up]");
+  is("moved up", await b.run(`[...document.querySelectorAll("#items tbody .number:first-child")].map((cell) => cell.textContent)`), ["0", "1 ↳", "2 ↳"]);
+  await set(cell(0, "lines"), "80");
+  await b.run("deskPage.views.plan.choose(0)");
+  await click("[data-do=remove]");
+  await begins("a running-on item first", "verdict", "refused 10 item 0 (first)");
+  await click("[data-do=remove]");
+  await click("[data-do=remove]");
+  await begins("no item", "verdict", "refused 6 item 0 (no band) The plan has no bytes.");
+  await click("[data-do=full]");
+  is("a new band is as a line before any record", await rows("listhex"), ["F4 8F 07 00 00 00 00 00 00 00 00 00 00 00 00 00 00 00 07 07 11 FF"]);
+  await click("[data-do=running]");
+  await click("[data-do=copy]");
+  is("three items", (await rows("listhex")).slice(1), ["A0 09 07 00 00 00 11 FF", "A0 89 07 00 00 00 11 FF"]);
+  await focus("#listhex");
+  for (let i = 0; i < 3; i++) await b.key("ArrowRight");
+  is("the third byte", await said("byte"), "item 0 · $07 = 7 · RPTL, repeat: 7");
+  is("its field is marked", await b.run(`[...document.querySelectorAll("#items td.hit")].map((td) => td.dataset.at)`), ["0:lines"]);
+}
+
+async function files() {
+  const got = mkdtempSync(join(room, "saved-"));
+  await set("#examples", "text_screen");
+  await b.send("Browser.setDownloadBehavior", { behavior: "allow", downloadPath: got });
+  for (const id of ["[data-do=saveplan]", "[data-do=savelist]"]) { await click(id); await sleep(400); }
+  is("saved plan", readFileSync(join(got, "screen.plan")).toString("hex"), readFileSync(example("text_screen.plan")).toString("hex"));
+  is("saved list", readFileSync(join(got, "screen.xdl")).toString("hex").toUpperCase(), listOf("text_screen").join("").replace(/ /g, ""));
+  await b.run("navigator.clipboard.writeText = async (text) => { globalThis.copied = text; }");
+  await click("[data-do=assembler]");
+  is("assembler", await b.run("copied"), listOf("text_screen").map((row) => `    dta ${row.split(" ").map((byte) => "$" + byte).join(",")}\n`).join(""));
+  await b.choose("open", example("picture_status.plan"));
+  is("opened", await rows("listhex"), listOf("picture_status"));
+  writeFileSync(join(room, "cut.plan"), readFileSync(example("picture_status.plan")).subarray(0, 30));
+  await b.choose("open", join(room, "cut.plan"));
+  await begins("a cut plan", "verdict", "cut.plan is not opened. refused 5 item 1 (plan cut)");
+  is("the table stays", await rows("listhex"), listOf("picture_status"));
+}
+
+// crates/planlines/stdout: what each line of the examples shows with the list at 7FFF8h, worked out by a second program.
+function expectedLines(name) {
+  const section = text("crates/planlines/stdout").split(/^(?=\S+\.plan$)/m).find((each) => each.startsWith(`${name}.plan\n`));
+  return [...section.matchAll(/^line (\d+): (\w+) (\w+) step (\d+) scroll (\d+) (\d+) font (\w+) counter (\d+); map (\w+) (\w+) step (\d+) scroll (\d+) (\d+) field (\d+)x(\d+) counter (\d+); width (\d) palettes (\d) (\d) priority (\w+); record (\w+); item (\d+)/gm)].map((row) => row.slice(1));
+}
+const MODES = ["off", "text", "SR", "HR", "LR"];
+
+async function lines() {
+  await part("lines");
+  await set("#at", "$7FFF8");
+  let seen = 0;
+  for (const name of ["text_screen", "picture_status", "scrolled_band", "mapped_screen"]) {
+    await set("#examples", name);
+    const want = expectedLines(name);
+    is(`planlines has ${name}`, want.length > 5, true);
+    for (const [n, mode, address, step, hs, vs, font, counter, map, mapAddress, mapStep, mhs, mvs, fw, fh, fc, width, op, pp, priority, record, item] of want) {
+      const sixteen = (digits) => parseInt(digits, 16);
+      is(`${name}, line ${n}`, await b.run(`[...deskPage.bench.lines()[${n}].words]`), [MODES.map((each) => each.toLowerCase()).indexOf(mode.toLowerCase()), sixteen(address), +step, +hs, +vs, sixteen(font), +counter, map === "on" ? 1 : 0, sixteen(mapAddress), +mapStep, +mhs, +mvs, +fw, +fh, +fc, +width, +op, +pp, sixteen(priority), sixteen(record)]);
+      await b.run(`deskPage.views.lines.choose(${n})`);
+      is(`${name}, line ${n}: its record`, (await said("recordsay")).replace(/, read.*\. It/, ": It"), `The record at $${record}: It is item ${item} of the plan.`);
+      seen++;
+    }
+  }
+  is("lines were compared", seen > 40, true);
+  // the list of document 01: SR at 1000h, 1140h, 1280h, then off, address 13C0h
+  const worked = [[2, 0x1000], [2, 0x1140], [2, 0x1280], [0, 0x13c0]], first = () => Promise.all([0, 1, 2, 3].map((n) => words(n, "MODE", "ADDRESS")));
+  await set("#from", "own");
+  is("the worked list", await first(), worked);
+  await set("#at", "$7FFFF");
+  await set("#length", 16384);
+  is("the worked list at the end of a short memory", await first(), worked);
+  is("its record", await words(3, "RECORD"), [0x7ffff]);
+  await set("#own", "    dta $62,$80,$02 ; three lines\n 0x00 10h 00 4001");
+  is("pasted as assembler", await first(), worked);
+  await set("#own", "62 8 02");
+  await begins("no hex", "ownsay", "'8' is no byte in hex.");
+  await set("#own", "62 80 02 00 10 00 40 01");
+  await set("#at", "524288");
+  await begins("an address too high", "benchsay", "install is refused 14 (address): The address is above 524,287.");
+  await set("#at", "here");
+  await begins("no address", "benchsay", "'here' is no address");
+  await set("#at", "0");
+  await click("#on");
+  is("not switched on", [...(await words(0, "MODE", "ADDRESS", "RECORD")), await said("recordsay")], [0, 0, 524288, "No record was read: the list is not switched on."]);
+  await click("#on");
+  await set("#from", "memory");
+  await begins("as memory has it", "benchsay", "XDL_ADR is $00000; nothing is installed.");
+  is("memory still has the list", await first(), worked);
+  await focus("#strip");
+  await b.key("End");
+  is("the last line by key", await said("lineno"), "239");
+  await b.key("ArrowUp");
+  is("the line above by key", await said("lineno"), "238");
+  for (const [id, value] of [["#length", 524288], ["#from", "plan"], ["#at", "$7EB60"]]) await set(id, value);
+}
+
+// The picture that README shows was made by planpic: (32, 32, 48) is transparent, (16, 16, 16) beside a line. Here a checkerboard is transparent.
+async function picture() {
+  await part("picture");
+  await set("#content", "example");
+  await set("#examples", "small_screen");
+  const png = readFileSync(example("small_screen.png")).toString("base64");
+  const differ = () => b.run(`(async () => {
+    const image = new Image(); image.src = "data:image/png;base64,${png}"; await image.decode();
+    const of = (source) => { const c = document.createElement("canvas"); c.width = 672; c.height = 240; const x = c.getContext("2d"); x.imageSmoothingEnabled = false; x.drawImage(source, 0, 0, 672, 240); return x.getImageData(0, 0, 672, 240).data; };
+    const want = of(image), got = of(deskPage.views.picture.picture.now()); let wrong = 0, clear = 0;
+    const at = (data, i) => data[4 * i] + "," + data[4 * i + 1] + "," + data[4 * i + 2];
+    for (let i = 0; i < 672 * 240; i++) { const w = at(want, i), g = at(got, i); if (w === "32,32,48") { clear++; if (g !== "32,32,48" && g !== "42,42,60") wrong++; } else if (w !== g) wrong++; }
+    return [image.width, image.height, wrong, clear > 1000];
+  })()`);
+  const [wide, high, wrong, clear] = await differ();
+  is("README's picture, point by point", [wide, high % 240, wrong, clear], [672, 0, 0, true]);
+  await shot("picture");
+  const whole = () => b.run(`(() => { const p = deskPage.views.picture; p.point(336, 8); return document.getElementById("point").textContent; })()`);
+  await b.run(`deskPage.views.picture.point(120, 0)`);
+  is("a line that is off", await said("point"), "line 0 · no pixels: the overlay is off");
+  await b.run(`deskPage.views.picture.point(16 + 2 * 60, 46 + 79)`);
+  is("a pixel", await said("point"), `line 125 · 320 pixels · pixel 60: palette 2, colour $${readFileSync(example("small_screen.mem"))[0x1000 + 79 * 320 + 60].toString(16).toUpperCase().padStart(2, "0")}`);
+  await click("#notrans");
+  is("no_trans", await b.run("deskPage.bench.lines().some(({ pixels }) => pixels.includes(65535))"), false);
+  await click("#notrans");
+  is("not no_trans", await b.run("deskPage.bench.lines().some(({ pixels }) => pixels.includes(65535))"), true);
+  await focus("#whole");
+  await b.run("deskPage.views.picture.point(336, 120)");
+  await b.key("ArrowDown");
+  await begins("the point by key", "point", "line 121 ");
+  await whole();
+  await set("#palettes fieldset:nth-child(3) select", "grey");
+  is("a grey palette", await b.run("deskPage.palettes.colour(2 * 256 + 0x40) >>> 0"), 0xff404040);
+  await b.run(`deskPage.views.picture.loaded(2, Uint8Array.from({ length: 768 }, (_, i) => i % 3 === 0 ? 255 : 0), "red.pal")`);
+  is("a palette from a file", await b.run("deskPage.palettes.colour(2 * 256 + 0x40) >>> 0"), 0xff0000ff);
+  await b.run(`deskPage.views.picture.loaded(2, new Uint8Array(767), "short.pal")`);
+  is("a file that is no palette", await said("status"), "short.pal has 767 bytes; a palette has 768: 256 times red, green, blue");
+  await set("#palettes fieldset:nth-child(3) select", "red, green, blue");
+  // a file dropped on the picture, to an address
+  await set("#loadat", "$01000");
+  await b.run(`(async () => { const data = new DataTransfer(); data.items.add(new File([new Uint8Array(25600).fill(0xe0)], "red.bin")); document.getElementById("whole").dispatchEvent(new DragEvent("drop", { dataTransfer: data, bubbles: true, cancelable: true })); })()`);
+  await sleep(200);
+  is("a dropped file", await said("benchsay"), "red.bin: 25,600 bytes are in memory from $01000 on.");
+  is("the frame shows it", await b.run("[...new Set(deskPage.bench.lines()[60].pixels)]"), [2 * 256 + 0xe0]);
+  await set("#loadat", "$80000");
+  await b.choose("load", example("small_screen.mem"));
+  await begins("an address too high for a file", "benchsay", "small_screen.mem: install is refused 14 (address)");
+  await set("#loadat", "$7FFFF");
+  await b.choose("load", example("small_screen.mem"));
+  is("a file past the end goes on at 0", await b.run("[deskPage.bench.byte(524287), deskPage.bench.byte(0)]"), [...readFileSync(example("small_screen.mem")).subarray(0, 2)]);
+  const got = mkdtempSync(join(room, "saved-"));
+  await b.send("Browser.setDownloadBehavior", { behavior: "allow", downloadPath: got });
+  for (const id of ["#savepicture", "#savememory"]) { await click(id); await sleep(500); }
+  is("a saved picture", readFileSync(join(got, "screen.png")).readUInt32BE(16), 672);
+  is("a saved memory", readFileSync(join(got, "memory.bin")).length, 524288);
+  await set("#content", "example");
+}
+
+// Ticks of each scene: one for the load of each block, and W·ZX·H·ZY for its bytes. The code, and how many bytes of memory differ, where the scene is about it.
+const SCENES = [
+  ["a ball over the hills", 1 + 32 * 32], ["collisions go by ranges", 4 + 2 * 60 * 60 + 2 * 32 * 32, { code: 0x20 }], ["a block rewrites the next one", 2 + 1 + 100 * 60], ["zoom does not zoom the step", 1 + 96 * 96], ["a row begins from the row's beginning", 1 + 90 * 50],
+  ["zoomed 5 by 4", 1 + 160 * 128], ["mirrored, and upside down", 2 + 2 * 32 * 32], ["a pattern of 16", 1 + 240 * 80], ["nibbles", 1 + 128 * 64], ["a pointer drawn twice", 2 + 2 * 200 * 120, { changed: "0" }], ["a smear", 1 + 180 * 90], ["the display list is memory too", 2, { changed: "1" }], ["a text row runs on", 1 + 80],
+];
+const state = (name) => b.run(`[...document.querySelectorAll("#state div")].find((each) => each.firstChild.textContent === ${quoted(name)}).querySelector("b").textContent`);
+const blockField = (legend, name, value) => b.run(`(() => { const set = [...document.querySelectorAll("#blocks fieldset")].find((each) => each.querySelector("legend").textContent === ${quoted(legend)}); const input = [...set.querySelectorAll("label")].find((each) => each.firstChild.textContent === ${quoted(name)}).querySelector("input, select"); input.value = ${quoted(String(value))}; input.dispatchEvent(new Event("input")); })()`);
+
+async function blitter() {
+  await part("blitter");
+  await b.run("document.activeElement.blur()");
+  // document 01: a copy of 4 bytes in mode 0 is 5 ticks and 29 accesses; as a fill 25
+  await blockField("size", "width", 4);
+  await blockField("size", "height", 1);
+  await b.key("u", "u");
+  is("a copy of 4 bytes", [await state("ticks"), await state("accesses"), await state("FLAGS"), await state("IRQF")], ["5", "29", "0 IDLE", "1"]);
+  await blockField("what is done", "AND mask", 0);
+  await b.key("u", "u");
+  is("a fill of 4 bytes", [await state("ticks"), await state("accesses")], ["5", "25"]);
+  for (const key of ["s", "t", "t"]) await b.key(key, key);
+  is("start and two ticks", [await state("FLAGS"), await state("ROW"), await state("COLUMN"), await state("ticks")], ["2 BUSY", "0", "1", "2"]);
+  await b.key("r", "r");
+  is("the rest of the row", [await state("FLAGS"), await state("ticks")], ["0 IDLE", "5"]);
+  await blockField("size", "height", "0");
+  is("no height", await b.run(`document.querySelectorAll("#blocks [aria-invalid=true]").length`), 1);
+  await b.key("s", "s");
+  await b.key("t", "t");
+  await click("[data-do=stop]");
+  is("a stop raises no interrupt", [await state("FLAGS"), await state("IRQF")], ["0 IDLE", "0"]);
+  await set("#register", 0x55);
+  await set("#value", "$100");
+  await b.run("document.getElementById('registers').requestSubmit()");
+  await begins("no byte for a register", "log", "'$100' is no byte");
+  await set("#value", "$2A");
+  await b.run("document.getElementById('registers').requestSubmit()");
+  is("a register", [await board("P0"), (await said("reads")).startsWith("reads: CORE_VERSION $10, MINOR_REVISION $24")], [0x2a, true]);
+  await click("#blocks .choices button[aria-label='Add a block']");
+  is("two blocks, the first with NEXT", await b.run("deskPage.views.blitter.blocks.map((bytes) => bytes[20] & 8)"), [8, 0]);
+  await click("#blocks .choices button[aria-label='Remove the block']");
+  is("one block", await b.run("deskPage.views.blitter.blocks.length"), 1);
+
+  is("the scenes", await b.run(`[...document.querySelectorAll("#scenes option")].map((each) => each.value).filter(Boolean)`), SCENES.map(([name]) => name));
+  for (const [name, ticks, about = {}] of SCENES) {
+    await set("#scenes", name);
+    is(`${name}: is explained`, (await said("scenesay")).length > 40, true);
+    await click("[data-do=run]");
+    is(`${name}: ticks`, [await state("FLAGS"), await state("ticks")], ["0 IDLE", ticks.toLocaleString("en")]);
+    if (about.code !== undefined) is(`${name}: code`, await board("CODE"), about.code);
+    if (about.changed !== undefined) is(`${name}: bytes changed`, await state("bytes changed"), about.changed);
+  }
+  const pixel = (line, n) => b.run(`deskPage.bench.lines()[${line}].pixels[${n}]`), byte = (address) => b.run(`deskPage.bench.byte(${address})`);
+  await set("#scenes", "a block rewrites the next one");
+  await click("[data-do=run]");
+  is("the second block fills with green, as the first one wrote it", await pixel(100, 160), 256 + 32 + 4 * 6);
+  await set("#scenes", "a row begins from the row's beginning");
+  await click("[data-do=run]");
+  is("each row begins three points further", [await pixel(60, 40), await pixel(61, 43), (await pixel(61, 42)) !== 256 + 0xff, await pixel(109, 40 + 49 * 3)], [256 + 0xff, 256 + 0xff, true, 256 + 0xff]);
+  await set("#scenes", "zoom does not zoom the step");
+  const before = await pixel(105, 60 + 2 * 48 + 1);
+  await click("[data-do=run]");
+  is("every second byte is written", [await pixel(105, 60 + 2 * 48 + 1), (await pixel(105, 60 + 2 * 48)) === 256 + (await byte(0xc400 + (8 + 15) * 320 + 8 + 16))], [before, true]);
+  await set("#scenes", "the display list is memory too");
+  await click("[data-do=run]");
+  is("the frame's step is another", await words(0, "STEP"), [321]);
+  await set("#scenes", "a text row runs on");
+  is("the row's counter goes on", await Promise.all([100, 101, 102, 103, 104, 107, 108, 115].map(async (n) => (await words(n, "TEXT_COUNTER"))[0])), [0, 1, 2, 3, 4, 7, 0, 7]);
+  await set("#scenes", "a ball over the hills");
+  await b.key("s", "s");
+  for (let i = 0; i < 14; i++) await b.key("r", "r");
+  is("a load and 14 rows", [await state("ticks"), await state("ROW")], [String(1 + 14 * 32), "14"]);
+  await sleep(100);
+  await shot("blitter");
+  is("what the blitter paints is what the frame shows", await pixel(96 + 8, 150 + 16), 256 + (await byte(0xc400 + (8 + 8) * 320 + 8 + 16)));
+  await set("#scenes", "zoomed 5 by 4");
+  await set("#speed", 9);
+  await b.key("p", "p");
+  await sleep(100);
+  is("it plays", await b.run(`document.getElementById("play").getAttribute("aria-pressed")`), "true");
+  await sleep(1500);
+  is("it played to the end", [await state("FLAGS"), await state("ticks"), await b.run(`document.getElementById("play").getAttribute("aria-pressed")`)], ["0 IDLE", "20,481", "false"]);
+}
+
+// Every button, field and list that is seen can be reached by the Tab key, and the parts by the arrow keys.
+async function keyboard() {
+  for (const name of ["plan", "lines", "picture", "blitter"]) {
+    await part(name);
+    await b.run(`(() => { globalThis.reached = new Set(); document.activeElement.blur(); document.addEventListener("focusin", (event) => reached.add(event.target)); })()`);
+    const wanted = `[...document.querySelectorAll("header button:not([tabindex='-1']), #bench :is(button, select, input, label.button), main:not([hidden]) :is(button, select, input, textarea, label.button, [tabindex='0'])")].filter((e) => e.checkVisibility() && !e.disabled)`;
+    const many = await b.run(`${wanted}.length`);
+    for (let i = 0; i < many + 12; i++) await b.key("Tab");
+    is(`${name}: not reached by Tab`, await b.run(`${wanted}.filter((e) => !reached.has(e)).map((e) => e.id || e.ariaLabel || e.textContent)`), []);
+    is(`${name}: has something to reach`, many > 12, true);
+    is(`${name}: all have a name`, await b.run(`${wanted}.filter((e) => /INPUT|SELECT|TEXTAREA/.test(e.tagName) && !e.labels?.length && !e.ariaLabel).map((e) => e.id || e.outerHTML.slice(0, 60))`), []);
+  }
+  await focus("#tab-blitter");
+  await b.key("ArrowRight");
+  is("from the last part to the first", await b.run(`[document.activeElement.id, document.getElementById("plan").hidden]`), ["tab-plan", false]);
+}
+
+async function narrow() {
+  for (const width of [420, 800, 1440]) {
+    await b.size(width, 900);
+    for (const name of ["plan", "lines", "picture", "blitter"]) {
+      await part(name);
+      is(`${name} at ${width}: nothing is cut off`, await b.run("document.documentElement.scrollWidth"), width);
+      if (shots && width === 420) await b.shot(join(room, `${name}-420.png`));
+    }
+  }
+  await b.size(1440, 900);
+}
+
+async function themes() {
+  await part("lines");
+  const paper = () => b.run("getComputedStyle(document.body).backgroundColor"), dark = await paper();
+  await click("#theme");
+  is("light", [(await paper()) !== dark, await b.run("document.documentElement.dataset.theme")], [true, "light"]);
+  await click("#theme");
+}
+
+// From a server: the same page; it asks for nothing else, and its policy forbids to.
+async function served() {
+  const asked = [], server = createServer((request, answer) => { asked.push(request.url); answer.setHeader("content-type", "text/html"); answer.end(readFileSync(page)); });
+  await new Promise((then) => server.listen(0, "127.0.0.1", then));
+  const from = `http://127.0.0.1:${server.address().port}/desk.html`;
+  await b.theme("light");
+  await b.go(from);
+  await begins("from a server", "verdict", "XDL 214 240 of 240 lines.");
+  is("by the system's choice", await b.run("document.documentElement.dataset.theme"), "light");
+  await part("lines");
+  await b.run("deskPage.views.lines.choose(97)");
+  await sleep(100);
+  await shot("lines");
+  is("no errors from a server", b.errors(), []);
+  is("fetch is forbidden", await b.run(`fetch("/other").then(() => "fetched", () => "forbidden")`), "forbidden");
+  is("so is a picture from elsewhere", await b.run(`new Promise((then) => { const image = new Image(); image.onload = () => then("loaded"); image.onerror = () => then("forbidden"); image.src = "/other.png"; })`), "forbidden");
+  is("the server was asked once", asked, ["/desk.html"]);
+  server.close();
+}
+
+// The build's own checks: each must end with 1 and say why.
+function guards() {
+  const made = join(top, "target/web/made"), refuses = (what, script, args, why) => {
+    const { status, stderr } = spawnSync("node", [join(top, "web/make", script), ...args], { encoding: "utf8" });
+    is(what, [status, stderr.includes(why)], [1, true]);
+  };
+  const module = readFileSync(join(made, "module.ll"), "utf8"), other = (name, from, to) => {
+    if (!from.test(module)) is(`${name} can be tried`, false, true);
+    writeFileSync(join(room, name), module.replace(from, to));
+    return join(room, name);
+  };
+  refuses("a pointer as a number", "width.mjs", [other("a.ll", /^(start:\n)/m, "$1  %bad = ptrtoint ptr %a0 to i64\n")], "a pointer as a number");
+  refuses("pointers compared", "width.mjs", [other("b.ll", /^(start:\n)/m, "$1  %bad = icmp ult ptr %a0, %a1\n")], "pointers compared or chosen");
+  refuses("a global", "width.mjs", [other("c.ll", /^define/m, "@table = global [4 x i8] zeroinitializer\ndefine")], "a global or a named type");
+  refuses("a move of a computed length", "width.mjs", [other("d.ll", /(llvm\.memmove\S+\(ptr %\w+, ptr %\w+, i64 )16/, "$1%r1")], "a computed length");
+  // the length of a slice read from where its pointer is: half of those 8 bytes is undefined with 32 bits
+  refuses("a place for both, in another function", "width.mjs", [other("e.ll", /(define internal noundef i32 @"capi::deskboard_new"[\s\S]*?getelementptr i8, ptr %r\d+, i64 )8/, "$10")], "a place that holds a pointer and a number");
+  refuses("another width of an address", "width.mjs", [other("f.ll", /getelementptr i8, ptr (%\w+), i64 8/, "getelementptr i32, ptr $1, i32 2")], "not a pointer and a 64-bit number");
+  const header = join(top, "include/deskboard.h"), more = join(room, "more.h");
+  writeFileSync(more, text("include/deskboard.h").replace("uint32_t deskboard_new(", "uint32_t deskboard_sprite(uint32_t *board, size_t board_len);\nuint32_t deskboard_new("));
+  refuses("a call that is not there", "exports.mjs", [join(top, "target/web/desk.wasm"), more], "it lacks exports of the header: deskboard_sprite");
+  // (import "env" "memset" (func)), and nothing else
+  writeFileSync(join(room, "import.wasm"), Buffer.from("0061736d01000000010401600000020e0103656e76066d656d7365740000", "hex"));
+  refuses("an import", "exports.mjs", [join(room, "import.wasm"), header], "it has imports: env.memset");
+  const copy = join(room, "tree");
+  mkdirSync(join(copy, "web/page"), { recursive: true });
+  for (const name of ["include", "docs", "examples"]) spawnSync("cp", ["-r", join(top, name), join(copy, name)]);
+  writeFileSync(join(copy, "web/page/uses.js"), "H.BOARD_SPRITE");
+  refuses("a name that the header does not have", "facts.mjs", [copy, join(top, "target/web/desk.wasm")], "include/deskboard.h has no DESKBOARD_BOARD_SPRITE");
+  writeFileSync(join(copy, "web/page/uses.js"), "");
+  writeFileSync(join(copy, "docs/HELP.md"), text("docs/HELP.md").replace(/^\| 14 \|.*\n/m, ""));
+  refuses("a refusal that the sheet does not have", "facts.mjs", [copy, join(top, "target/web/desk.wasm")], "no row for DESKBOARD_REFUSED_ADDRESS, 14");
+}
+
+try {
+  await b.size(1440, 900);
+  await b.theme("dark");
+  await b.go(url);
+  await shot("plan");
+  for (const each of [plan, files, lines, picture, blitter, keyboard, themes, narrow]) await each();
+  is("no errors from the disk", b.errors(), []);
+  is("no request but for the page and what it saves", [...new Set(b.requests().filter((asked) => asked !== "about:blank" && !/^(blob|data):/.test(asked)))], [url]);
+  await served();
+  guards();
+} finally {
+  await b.close();
+  if (process.env.KEEP) console.log(`kept: ${room}`);
+  else rmSync(room, { recursive: true, force: true });
+}
+console.log(`${tried - failed} of ${tried} checks as wanted`);
+process.exit(failed ? 1 : 0);

@@ -1,0 +1,93 @@
+// The bar above all parts: memory, what it begins as and what is loaded into it; the display list, where it is and whether it is switched on.
+import { ENUMS, EXAMPLES, MEMORY } from "./facts.js";
+import { H } from "./desk.js";
+import { inWords } from "./sheet.js";
+import { $, adr, count, el, number, onFile, options, pasted, save } from "./dom.js";
+import { SCENE_MEMORY } from "./scenes.js";
+
+const LIST_AT = H.MEMORY_512K - H.LIST_BYTES; // the end of memory: there is room for every list, and planpic puts it there too
+const bytesOf64 = (text) => Uint8Array.from(atob(text), (char) => char.charCodeAt(0));
+export const EXAMPLE_MEMORY = bytesOf64(MEMORY);
+
+// What memory can begin as.
+const CONTENTS = {
+  example: ["the example screen", () => EXAMPLE_MEMORY],
+  scene: ["the blitter's scenes", () => SCENE_MEMORY(EXAMPLE_MEMORY)],
+  counting: ["counting bytes", () => Uint8Array.from({ length: H.MEMORY_512K }, (_, i) => i & 255)],
+  empty: ["all 0", () => new Uint8Array(0)],
+};
+
+export class BenchView {
+  constructor(bench, plan) {
+    Object.assign(this, { bench, plan });
+    $("length").append(...options(ENUMS.memory.map(([, length]) => [length, count(length)])));
+    $("length").value = bench.length;
+    $("content").append(...options(Object.entries(CONTENTS).map(([name, [says]]) => [name, says])));
+    $("at").value = adr(LIST_AT);
+    $("length").onchange = () => this.refill();
+    $("content").onchange = () => this.refill();
+    for (const id of ["at", "from", "on", "notrans", "trans15", "own"]) $(id).oninput = () => this.lay();
+    onFile($("load"), (bytes, name) => this.load(bytes, name));
+    $("savememory").onclick = () => save("memory.bin", bench.memory.view.slice());
+    for (const id of ["loadbutton", "openbutton"]) $(id).onkeydown = (event) => { if (/^(Enter| )$/.test(event.key)) { event.preventDefault(); $(id).querySelector("input").click(); } };
+  }
+
+  tell(text, bad = false) {
+    $("benchsay").textContent = text;
+    $("benchsay").className = bad ? "bad" : "";
+  }
+
+  // ---- memory
+  // As much of a content as memory has room for; a memory that is shorter shows the first part of it.
+  fill(content) {
+    $("content").value = content;
+    this.bench.length = Number($("length").value);
+    this.bench.clear();
+    this.bench.load(CONTENTS[content][1]().subarray(0, this.bench.length), 0);
+  }
+
+  refill() {
+    this.fill($("content").value);
+    this.lay();
+  }
+
+  load(bytes, name) {
+    const at = number($("loadat").value), good = Number.isInteger(at) && at >= 0 && at < 2 ** 32;
+    if (!good) return this.tell(`${name} is not loaded: '${$("loadat").value}' is no address.`, true);
+    const answer = this.bench.load(bytes, at);
+    this.bench.changed();
+    this.tell(answer ? `${name}: install is ${inWords(answer)}` : `${name}: ${count(bytes.length)} bytes are in memory from ${adr(at)} on${bytes.length > this.bench.length ? ", which is shorter: the last ones stand" : ""}.`, answer !== 0);
+  }
+
+  // ---- the display list
+  // The bytes to install; null where there are none to take: then memory stays as it is.
+  listBytes() {
+    const from = $("from").value, own = pasted($("own").value);
+    $("ownbox").hidden = from !== "own";
+    $("ownsay").className = own.wrong ? "bad" : "dim small";
+    $("ownsay").textContent = own.wrong ? `'${own.wrong}' is no byte in hex. Nothing was installed.` : `${own.bytes.length} bytes`;
+    if (from === "own") return own.bytes;
+    return from === "plan" ? this.plan.list : new Uint8Array(0);
+  }
+
+  // Installs the list, points XDL_ADR at it and sets VIDEO_CONTROL.
+  lay() {
+    const { bench } = this, bytes = this.listBytes(), at = number($("at").value);
+    const bits = [["on", H.XDL_ENABLED], ["notrans", H.NO_TRANS], ["trans15", H.TRANS15]].reduce((sum, [id, bit]) => sum + ($(id).checked ? bit : 0), 0);
+    const typed = Number.isInteger(at) && at >= 0 && at < 2 ** 32;
+    $("at").setAttribute("aria-invalid", String(!typed));
+    const answer = typed && bytes ? bench.load(bytes, at) : 0;
+    if (typed && !answer) bench.writeAll(H.WRITE_XDL_ADR0, at, 3);
+    bench.write(H.WRITE_VIDEO_CONTROL, bits);
+    this.say(typed, answer, bytes, at);
+    bench.changed();
+  }
+
+  say(typed, answer, bytes, at) {
+    if (!typed) return this.tell(`'${$("at").value}' is no address: write 4096, $1000, 0x1000 or 1000h. XDL_ADR stays.`, true);
+    if (answer) return this.tell(`install is ${inWords(answer)} XDL_ADR stays.`, true);
+    const from = $("from").value, asks = $("on").checked ? "" : " It is not switched on.";
+    if (!bytes) return this.tell(from === "plan" ? "The plan is refused: memory keeps the last list." : "Memory keeps the last list.", true);
+    this.tell(from === "memory" ? `XDL_ADR is ${adr(at)}; nothing is installed.${asks}` : `${count(bytes.length)} bytes are installed at ${adr(at)}, and XDL_ADR is that address.${asks}`);
+  }
+}
