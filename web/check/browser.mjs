@@ -55,7 +55,7 @@ export class Browser {
   }
 
   async key(key, text) {
-    const code = key.length === 1 ? `Key${key.toUpperCase()}` : key, windowsVirtualKeyCode = { Tab: 9, Enter: 13, ArrowLeft: 37, ArrowUp: 38, ArrowRight: 39, ArrowDown: 40, End: 35, Home: 36 }[key];
+    const code = key.length === 1 ? `Key${key.toUpperCase()}` : key, windowsVirtualKeyCode = { Tab: 9, Enter: 13, Escape: 27, ArrowLeft: 37, ArrowUp: 38, ArrowRight: 39, ArrowDown: 40, End: 35, Home: 36 }[key];
     await this.send("Input.dispatchKeyEvent", { type: "keyDown", key, code, text, windowsVirtualKeyCode });
     await this.send("Input.dispatchKeyEvent", { type: "keyUp", key, code, windowsVirtualKeyCode });
   }

@@ -64,6 +64,7 @@ async function plan() {
   await focus(cell(0, "lines"));
   await b.key("ArrowDown");
   await b.key("ArrowDown");
+  is("the range of the field is said", await said("byte"), "item 2, lines, 1 to 240");
   is("down twice", await b.run("document.activeElement.closest('td').dataset.at"), "2:lines");
   await click("[data-do=up]");
   is("moved up", await b.run(`[...document.querySelectorAll("#items tbody .number:first-child")].map((cell) => cell.textContent)`), ["0", "1 ↳", "2 ↳"]);
@@ -99,8 +100,20 @@ async function files() {
   is("opened", await rows("listhex"), listOf("picture_status"));
   writeFileSync(join(room, "cut.plan"), readFileSync(example("picture_status.plan")).subarray(0, 30));
   await b.choose("open", join(room, "cut.plan"));
-  await begins("a cut plan", "verdict", "cut.plan is not opened. refused 5 item 1 (plan cut)");
+  await begins("a cut plan", "verdict", "cut.plan is not opened: it is no row of items. refused 5 item 1 (plan cut)");
   is("the table stays", await rows("listhex"), listOf("picture_status"));
+  // a field out of its range is opened, and marked; where a kind behind it is wrong too, nothing is opened
+  const wrong = readFileSync(example("picture_status.plan"));
+  wrong[4 + 7] = 8;
+  writeFileSync(join(room, "field.plan"), wrong);
+  await b.choose("open", join(room, "field.plan"));
+  await begins("a plan with a wrong field", "verdict", "refused 9 item 0 (field)");
+  wrong[27 + 2] = 3;
+  writeFileSync(join(room, "two.plan"), wrong);
+  await b.choose("open", join(room, "two.plan"));
+  await begins("a plan with two faults", "verdict", "two.plan is not opened: it is no row of items. refused 9 item 0 (field)");
+  await click("[data-do=undo]");
+  is("undone to the plan before", await rows("listhex"), listOf("picture_status"));
 }
 
 // crates/planlines/stdout: what each line of the examples shows with the list at 7FFF8h, worked out by a second program.
@@ -328,6 +341,15 @@ async function narrow() {
   await b.size(1440, 900);
 }
 
+// The page for renters, in the page.
+async function guide() {
+  await click("#helpbutton");
+  is("the guide", await b.run(`[document.getElementById("guide").open, [...document.querySelectorAll("#guide h3")].map((each) => each.textContent)]`), [true, [...text("docs/BROWSER.md").matchAll(/^## (.*)$/gm)].map(([, head]) => head)]);
+  if (shots) await b.shot(join(room, "guide.png"));
+  await b.key("Escape");
+  is("the guide is closed by key", await b.run(`document.getElementById("guide").open`), false);
+}
+
 async function themes() {
   await part("lines");
   const paper = () => b.run("getComputedStyle(document.body).backgroundColor"), dark = await paper();
@@ -395,7 +417,7 @@ try {
   await b.theme("dark");
   await b.go(url);
   await shot("plan");
-  for (const each of [plan, files, lines, picture, blitter, keyboard, themes, narrow]) await each();
+  for (const each of [plan, files, lines, picture, blitter, keyboard, guide, themes, narrow]) await each();
   is("no errors from the disk", b.errors(), []);
   is("no request but for the page and what it saves", [...new Set(b.requests().filter((asked) => asked !== "about:blank" && !/^(blob|data):/.test(asked)))], [url]);
   await served();

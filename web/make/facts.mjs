@@ -1,6 +1,6 @@
 // facts.mjs TOP MODULE: writes, to standard output, the script module with all that the page knows of the board and has not written itself. Of the
 // header: words, registers, refusals, sizes. Of the help sheet: the refusals' words and the ranges of an item. Of the rules: a record's
-// control bits and data, and the blitter's modes. Of the examples: plans and a memory. And the proved module itself.
+// control bits and data, and the blitter's modes. Of the examples: plans and a memory. The page for renters. And the proved module itself.
 // It ends with a message where a page no longer has the form that is read here.
 import { readFileSync, readdirSync } from "node:fs";
 import { join } from "node:path";
@@ -112,6 +112,20 @@ function examples() {
   });
 }
 
+// ---- docs/BROWSER.md: the page for renters, as { kind, text }: a heading, a paragraph or a point of a list. Pictures are left out.
+const GUIDE = "docs/BROWSER.md";
+function guide() {
+  const parts = [];
+  for (const line of text(GUIDE).split("\n").filter((each) => !each.startsWith("!["))) {
+    const [, mark, rest] = line.match(/^(## |# |- )?(.*)$/), last = parts.at(-1);
+    if (mark) parts.push({ kind: { "# ": "h2", "## ": "h3", "- ": "li" }[mark], text: rest });
+    else if (!line.trim()) parts.push({ kind: "", text: "" });
+    else if (last.kind === "p" || last.kind === "li") last.text += ` ${rest}`;
+    else parts.push({ kind: "p", text: rest });
+  }
+  return parts.filter(({ kind }) => kind);
+}
+
 // Each name of the header that the page's script uses must be there.
 function used(numbers) {
   for (const name of readdirSync(join(top, "web/page")).filter((name) => name.endsWith(".js")))
@@ -122,7 +136,7 @@ const { enums, numbers, calls } = header();
 used(numbers);
 const base64 = (file) => readFileSync(file).toString("base64");
 const out = {
-  NUMBERS: numbers, ENUMS: enums, CALLS: calls, SHEET: sheet(enums.refusal), FIELDS: fields(enums.width), RECORD: record(), WRITES: modes(), EXAMPLES: examples(),
+  NUMBERS: numbers, ENUMS: enums, CALLS: calls, SHEET: sheet(enums.refusal), FIELDS: fields(enums.width), RECORD: record(), WRITES: modes(), EXAMPLES: examples(), GUIDE: guide(),
   MEMORY: base64(join(top, "examples/small_screen.mem")), MODULE: base64(module),
 };
 console.log("// Made by web/build out of the header, the help sheet, the rules, the examples and the module.");

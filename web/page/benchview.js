@@ -1,8 +1,8 @@
 // The bar above all parts: memory, what it begins as and what is loaded into it; the display list, where it is and whether it is switched on.
-import { ENUMS, EXAMPLES, MEMORY } from "./facts.js";
+import { ENUMS, MEMORY } from "./facts.js";
 import { H } from "./desk.js";
 import { inWords } from "./sheet.js";
-import { $, adr, count, el, number, onFile, options, pasted, save } from "./dom.js";
+import { $, adr, count, number, onFile, options, pasted, save } from "./dom.js";
 import { SCENE_MEMORY } from "./scenes.js";
 
 const LIST_AT = H.MEMORY_512K - H.LIST_BYTES; // the end of memory: there is room for every list, and planpic puts it there too

@@ -47,7 +47,7 @@ export class BlitterView {
     $("on").checked = true;
     this.bench.anew();
     this.benchView.fill("scene");
-    if (found.plan) this.plan.take(found.plan.map((item) => ({ ...newItem(item.kind, null, this.bench.beginning()), ...item })));
+    if (found.plan) this.plan.replace(found.plan.map((item) => ({ ...newItem(item.kind, null, this.bench.beginning()), ...item })));
     else this.plan.example(SCENE_PLAN);
     this.blocks = found.blocks(this.bench.word[H.BOARD_XDL_ADR]);
     this.chosen = 0;

@@ -8,6 +8,7 @@ import { PlanView } from "./planview.js";
 import { LinesView } from "./linesview.js";
 import { PictureView } from "./pictureview.js";
 import { BlitterView } from "./blitterview.js";
+import { guide } from "./guide.js";
 import { $, count, say } from "./dom.js";
 
 const FIRST_PLAN = "small_screen", FIRST_MEMORY = "example";
@@ -16,7 +17,7 @@ root.dataset.theme = matchMedia("(prefers-color-scheme: dark)").matches ? "dark"
 
 const began = performance.now();
 const bytes = Uint8Array.from(atob(MODULE), (char) => char.charCodeAt(0));
-const desk = await Desk.open(bytes);
+const desk = await Desk.open(bytes).catch((why) => { say(`This browser cannot start the board: ${why.message}. A browser of 2023 or later can.`); throw why; });
 const ready = performance.now() - began;
 
 const bench = new Bench(desk), palettes = new Palettes(), picture = new FramePicture(bench, palettes);
@@ -46,6 +47,7 @@ $("tabs").onkeydown = (event) => {
 for (const tab of tabs) tab.onclick = () => open(tab.id.slice(4));
 $("theme").onclick = () => { root.dataset.theme = root.dataset.theme === "dark" ? "light" : "dark"; picture.stale(); redraw(); };
 addEventListener("resize", redraw);
+guide();
 
 benchView.fill(FIRST_MEMORY);
 plan.changed = () => benchView.lay();

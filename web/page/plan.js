@@ -21,12 +21,13 @@ function bytesOfItem(item) {
 
 export const bytesOfPlan = (items) => Uint8Array.from(items.flatMap(bytesOfItem));
 
-// Of bytes whose items have a kind and its length: the module has told so, by refusing with none of 5, 7 and 8.
+// The items of a plan, for the table; null where the bytes cannot be written as a row of items, whether the module has come so far or not.
 export function itemsOfPlan(bytes) {
   const items = [];
   for (let at = 0; at < bytes.length; at += HEAD + sizeOf(items.at(-1).kind)) {
-    const item = { kind: bytes[at + 2] };
-    for (const field of FIELDS[item.kind]) item[field.name] = whole((place) => bytes[at + HEAD + place], field.place, field.size);
+    const item = { kind: bytes[at + 2] + 256 * bytes[at + 3] }, fields = FIELDS[item.kind];
+    if (!fields || at + HEAD + sizeOf(item.kind) > bytes.length || bytes[at] + 256 * bytes[at + 1] !== sizeOf(item.kind)) return null;
+    for (const field of fields) item[field.name] = whole((place) => bytes[at + HEAD + place], field.place, field.size);
     items.push(item);
   }
   return items;

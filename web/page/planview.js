@@ -8,7 +8,6 @@ import { show } from "./picture.js";
 import { $, adr, assembler, copy, count, el, hex, number, onFile, options, pasted, save, upDown } from "./dom.js";
 
 const MOST_BYTES = 16384; // more than any plan that the module takes
-const NO_ITEMS = [H.REFUSED_PLAN_CUT, H.REFUSED_KIND, H.REFUSED_LENGTH]; // bytes that are no row of items
 const GROUPS = [["", ["lines"]], ["overlay", ["mode", "overlay address", "overlay step", "hscroll", "vscroll", "font"]],
   ["attribute map", ["map", "map address", "map step", "map hscroll", "map vscroll", "field width", "field height"]], ["line", ["width", "palettes", "priority"]]];
 const headOf = (name) => name.replace(/^(overlay|map) (?=.)/, "").replace("field ", "f. ");
@@ -43,16 +42,19 @@ export class PlanView {
   }
 
   open(bytes, name) {
-    const { answer } = this.compile(bytes);
-    if (NO_ITEMS.includes(numberOf(answer)) || bytes.length > MOST_BYTES) return this.refused(answer, `${name} is not opened. `);
-    this.keep();
-    this.take(itemsOfPlan(bytes));
+    const { answer } = this.compile(bytes), items = itemsOfPlan(bytes);
+    if (!items) return this.refused(answer, `${name} is not opened: it is no row of items. `);
+    this.replace(items);
     $("byte").textContent = name;
   }
 
   take(items) {
     Object.assign(this, { items, chosen: 0 });
     this.anew();
+  }
+  replace(items) {
+    this.keep();
+    this.take(items);
   }
 
   // ---- what the buttons do
@@ -110,7 +112,7 @@ export class PlanView {
     });
     const made = el("tr", { className: `item ${this.colour(item)}` }, el("td", { className: "number", title: item.kind === 1 ? "full band" : "running on" }, item.kind === 1 ? String(n) : `${n} ↳`), el("td", { className: "number from" }), ...cells);
     made.onmousedown = () => this.choose(n);
-    made.addEventListener("focusin", () => this.choose(n));
+    made.addEventListener("focusin", (event) => { this.choose(n); $("byte").textContent = event.target.ariaLabel ?? ""; });
     return made;
   }
 
