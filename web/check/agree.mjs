@@ -19,9 +19,19 @@ const some = (n, one = () => below(256)) => Array.from({ length: n }, one);
 // ---- what goes out
 let parts = [], size = 0;
 function put(bytes) { parts.push(bytes); size += bytes.length; if (size > 1 << 22) flush(); }
+// How many bytes could be written: none while the pipe is full. Where replay has ended there is no one to write to.
+function written(all, from) {
+  try {
+    return writeSync(1, all, from);
+  } catch (error) {
+    if (error.code === "EPIPE") process.exit(1);
+    if (error.code !== "EAGAIN") throw error;
+    return 0;
+  }
+}
 function flush() {
   const all = Buffer.concat(parts);
-  for (let done = 0; done < all.length; ) try { done += writeSync(1, all, done); } catch (error) { if (error.code === "EPIPE") process.exit(1); if (error.code !== "EAGAIN") throw error; }
+  for (let done = 0; done < all.length; ) done += written(all, done);
   parts = [];
   size = 0;
 }
@@ -72,7 +82,10 @@ function call(name, ...given) {
   answered.add(answer & 255);
   put(Buffer.concat([answer, ...(given.includes(MEM) ? sum(MEMORY, length) : [0, 0])].map(word)));
   for (const [bytes, start] of lent) {
-    for (let i = 1; i <= GUARD; i++) if (held[start - i] !== 0xa7 || held[start + bytes.length + i - 1] !== 0xa7) throw new Error(`${name}: a byte beside a buffer was written`);
+    for (let i = 1; i <= GUARD; i++) {
+      const stayed = held[start - i] === 0xa7 && held[start + bytes.length + i - 1] === 0xa7;
+      if (!stayed) throw new Error(`${name}: a byte beside a buffer was written`);
+    }
     bytes.set(held.subarray(start, start + bytes.length));
     put(Buffer.from(bytes));
   }
@@ -92,10 +105,22 @@ const point = (words, offset, at) => low(at, 3).forEach((byte, i) => call("write
 function block(next) {
   const steps = () => [...low(pick(0, 1, 320, 8191, below(65536)), 2), pick(0, 1, 1, 255, below(256))];
   const high = pick(0, 0, 1, below(6)), masks = [pick(0, 255, 255, below(256)), pick(0, 0, below(256)), pick(0, 255, below(256))];
-  return [...low(address(), 3), ...steps(), ...low(address(), 3), ...steps(), ...low(pick(0, 1, 3, below(24), below(512)), 2), high, ...masks, pick(0, 0, 0x11, below(256)), pick(0, 0, 0x83, below(256)), below(8) + (next ? 8 : 0) + 16 * below(16)];
+  return [
+    ...low(address(), 3), ...steps(), // source
+    ...low(address(), 3), ...steps(), // destination
+    ...low(pick(0, 1, 3, below(24), below(512)), 2), high,
+    ...masks,
+    pick(0, 0, 0x11, below(256)), // zoom
+    pick(0, 0, 0x83, below(256)), // pattern
+    below(8) + (next ? 8 : 0) + 16 * below(16),
+  ];
 }
 
-const item = (kind, lines) => [FIELDS[kind].reduce((sum, field) => sum + field.size, 0), 0, kind, 0, ...FIELDS[kind].flatMap(({ name, least, most, size }) => low(name === "lines" ? lines : least + below(most - least + 1), size))];
+function item(kind, lines) {
+  const size = FIELDS[kind].reduce((sum, field) => sum + field.size, 0);
+  const value = ({ name, least, most }) => (name === "lines" ? lines : least + below(most - least + 1));
+  return [size, 0, kind, 0, ...FIELDS[kind].flatMap((field) => low(value(field), field.size))];
+}
 function plan() {
   const bytes = [];
   for (let left = H.LINES, first = true; left && (first || chance(0.8)); first = false) {
@@ -103,7 +128,13 @@ function plan() {
     left -= lines;
     bytes.push(...item(first || chance(0.5) ? 1 : 2, lines));
   }
-  const damage = [() => (bytes[below(bytes.length)] = below(256)), () => (bytes.length = below(bytes.length + 1)), () => bytes.push(...some(below(30))), () => bytes.push(...item(1 + below(2), below(256))), () => bytes.unshift(...item(2, 1))];
+  const damage = [
+    () => (bytes[below(bytes.length)] = below(256)),
+    () => (bytes.length = below(bytes.length + 1)),
+    () => bytes.push(...some(below(30))),
+    () => bytes.push(...item(1 + below(2), below(256))),
+    () => bytes.unshift(...item(2, 1)),
+  ];
   for (let k = chance(0.5) ? 0 : 1 + below(3); k > 0; k--) pick(...damage)();
   return Uint8Array.from(bytes.map((byte) => byte ?? 0));
 }
@@ -124,13 +155,23 @@ const KINDS = {
   lists() {
     const b = board(), at = address(), n = 1 + below(4);
     patch(at, some(n, () => 0).flatMap((_, i) => block(i < n - 1 || chance(0.1))));
+    const offsets = ENUMS.register.map(([, offset]) => offset);
+    const start = () => {
+      point(b, H.WRITE_BL_ADR0, at);
+      call("write", b, H.WRITE_IRQ_CONTROL, below(2));
+      call("write", b, H.WRITE_BLITTER_START, 1 | below(256));
+    };
     const acts = [
-      () => { point(b, H.WRITE_BL_ADR0, at); call("write", b, H.WRITE_IRQ_CONTROL, below(2)); call("write", b, H.WRITE_BLITTER_START, 1 | below(256)); },
-      () => call("run", b, MEM, budget(), report(H.RUN_WORDS)), () => call("run", b, MEM, below(300), report(H.RUN_WORDS)), () => call("tick", b, MEM, report(H.RUN_WORDS)),
+      start,
+      () => call("run", b, MEM, budget(), report(H.RUN_WORDS)),
+      () => call("run", b, MEM, below(300), report(H.RUN_WORDS)),
+      () => call("tick", b, MEM, report(H.RUN_WORDS)),
       () => call("write", b, pick(H.WRITE_BLITTER_START, H.WRITE_IRQ_CONTROL, 0x40 + below(32), below(300)), below(256)),
-      () => call("read", b, pick(...ENUMS.register.map(([, offset]) => offset), 0x40 + below(32), below(300)), report(H.READ_WORDS)), () => chance(0.3) && call("reset", b), () => chance(0.3) && patch(at + below(60), some(1 + below(4))),
+      () => call("read", b, pick(...offsets, 0x40 + below(32), below(300)), report(H.READ_WORDS)),
+      () => chance(0.3) && call("reset", b),
+      () => chance(0.3) && patch(at + below(60), some(1 + below(4))),
     ];
-    acts[0]();
+    start();
     for (let k = 0; k < 12; k++) pick(...acts)();
   },
   frames() {
@@ -153,13 +194,31 @@ const KINDS = {
     const b = board();
     call("write", b, H.WRITE_VIDEO_CONTROL, below(16));
     for (let k = 0; k < 12; k++) {
-      const s = new Uint32Array(H.SETTINGS_WORDS + below(2)), set = (name, value) => (s[H[`LINE_${name}`]] = value);
-      for (const [name, value] of [["MODE", below(5)], ["ADDRESS", address()], ["STEP", below(4096)], ["HSCROLL", pick(0, below(8))], ["VSCROLL", below(8)], ["FONT", below(256)], ["TEXT_COUNTER", below(8)], ["FIELD_WIDTH", 8], ["FIELD_HEIGHT", 8], ["WIDTH", below(3)], ["OVERLAY_PALETTE", below(4)], ["PRIORITY", below(256)], ["RECORD", address()]]) set(name, value);
+      const s = new Uint32Array(H.SETTINGS_WORDS + below(2));
+      const values = {
+        MODE: below(5),
+        ADDRESS: address(),
+        STEP: below(4096),
+        HSCROLL: pick(0, below(8)),
+        VSCROLL: below(8),
+        FONT: below(256),
+        TEXT_COUNTER: below(8),
+        FIELD_WIDTH: 8,
+        FIELD_HEIGHT: 8,
+        WIDTH: below(3),
+        OVERLAY_PALETTE: below(4),
+        PRIORITY: below(256),
+        RECORD: address(),
+      };
+      for (const [name, value] of Object.entries(values)) s[H[`LINE_${name}`]] = value;
       if (chance(0.2)) s[below(H.SETTINGS_WORDS)] = odd();
       draw(b, s);
     }
   },
-  installs() { call("install", MEM, Uint8Array.from(some(pick(0, 1, 22, H.LIST_BYTES, H.LIST_BYTES + 1, below(H.LIST_BYTES)))), pick(address(), address(), 524288, odd())); },
+  installs() {
+    const bytes = Uint8Array.from(some(pick(0, 1, 22, H.LIST_BYTES, H.LIST_BYTES + 1, below(H.LIST_BYTES))));
+    call("install", MEM, bytes, pick(address(), address(), 524288, odd()));
+  },
   // Each word of a state once, made odd.
   states() {
     const b = board(), f = new Uint32Array(H.FRAME_WORDS), broken = (words, n) => { const other = words.slice(); other[n] = odd(); return other; };
@@ -171,7 +230,15 @@ const KINDS = {
     for (let n = 0; n < H.FRAME_WORDS; n++) call("next_line", broken(f, n), MEM, words(H.SETTINGS_WORDS));
     for (let n = 0; n < H.BOARD_WORDS; n++) {
       const c = broken(b, n);
-      pick(() => call("write", c, 0x40 + below(32), below(256)), () => call("read", c, H.READ_BLITTER_BUSY, report(H.READ_WORDS)), () => call("reset", c), () => call("tick", c, MEM, report(H.RUN_WORDS)), () => call("run", c, MEM, below(2000), report(H.RUN_WORDS)), () => call("start", c, words(H.FRAME_WORDS)))();
+      const calls = [
+        () => call("write", c, 0x40 + below(32), below(256)),
+        () => call("read", c, H.READ_BLITTER_BUSY, report(H.READ_WORDS)),
+        () => call("reset", c),
+        () => call("tick", c, MEM, report(H.RUN_WORDS)),
+        () => call("run", c, MEM, below(2000), report(H.RUN_WORDS)),
+        () => call("start", c, words(H.FRAME_WORDS)),
+      ];
+      pick(...calls)();
     }
   },
   lengths() {
@@ -188,7 +255,8 @@ const KINDS = {
 
 for (let n = 0; n < Number(scenarios); n++) {
   const kind = pick("lists", "lists", "lists", "frames", "plans", "plans", "draws", "draws", "installs", "states", "lengths"), dense = below(4);
-  memory(pick(16384, 16384, 16384, 32768, 65536, chance(0.2) ? 524288 : chance(0.5) ? 262144 : 131072), (i) => (dense === 0 ? 0 : dense === 1 ? (i * 37) & 255 : bits() & 255));
+  const bytes = pick(16384, 16384, 16384, 32768, 65536, chance(0.2) ? 524288 : chance(0.5) ? 262144 : 131072);
+  memory(bytes, (i) => (dense === 0 ? 0 : dense === 1 ? (i * 37) & 255 : bits() & 255));
   tell("S");
   KINDS[kind]();
 }

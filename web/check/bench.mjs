@@ -8,7 +8,10 @@ import { Browser } from "./browser.mjs";
 import { AGAIN, filled, FRAMES, LIST_AT, LISTS, SAMPLES } from "./works.mjs";
 
 const [page, module, native] = process.argv.slice(2), url = pathToFileURL(page).href;
-const size = (file) => { const bytes = readFileSync(file); return `${bytes.length.toLocaleString("en")} bytes, ${gzipSync(bytes).length.toLocaleString("en")} by gzip`; };
+function size(file) {
+  const bytes = readFileSync(file), count = (value) => value.toLocaleString("en");
+  return `${count(bytes.length)} bytes, ${count(gzipSync(bytes).length)} by gzip`;
+}
 console.log(`module: ${size(module)}\npage:   ${size(page)}`);
 
 // In the page: as bench.c does it.
@@ -20,7 +23,14 @@ const measure = (work, kind) => `(() => {
   bench.writeAll(H.WRITE_BL_ADR0, ${LIST_AT}, 3);
   bench.writeAll(H.WRITE_XDL_ADR0, ${LIST_AT}, 3);
   bench.write(H.WRITE_VIDEO_CONTROL, H.XDL_ENABLED);
-  const list = () => { let ticks = 0; for (let k = 0; k < ${AGAIN}; k++) { bench.write(H.WRITE_BLITTER_START, 1); ticks += bench.run(H.BUDGET).ticks; } return ticks; };
+  const list = () => {
+    let ticks = 0;
+    for (let k = 0; k < ${AGAIN}; k++) {
+      bench.write(H.WRITE_BLITTER_START, 1);
+      ticks += bench.run(H.BUDGET).ticks;
+    }
+    return ticks;
+  };
   const frame = () => {
     const { board, frame, settings, line, report, memory } = bench;
     for (let again = 0; again < ${AGAIN}; again++) {

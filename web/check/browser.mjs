@@ -4,7 +4,17 @@ import { mkdtempSync, rmSync, writeFileSync } from "node:fs";
 import { tmpdir } from "node:os";
 import { join } from "node:path";
 
-const OPTIONS = ["--headless=new", "--no-sandbox", "--disable-gpu", "--hide-scrollbars", "--no-first-run", "--disable-background-networking", "--remote-debugging-pipe"];
+const OPTIONS = [
+  "--headless=new",
+  "--no-sandbox",
+  "--disable-gpu",
+  "--hide-scrollbars",
+  "--no-first-run",
+  "--disable-background-networking",
+  "--remote-debugging-pipe",
+];
+const STDIO = ["ignore", "ignore", "ignore", "pipe", "pipe"]; // Chromium reads the protocol from 3 and writes it to 4
+const KEY_CODES = { Tab: 9, Enter: 13, Escape: 27, End: 35, Home: 36, ArrowLeft: 37, ArrowUp: 38, ArrowRight: 39, ArrowDown: 40 };
 const LATE = 20000; // ms
 export const sleep = (ms) => new Promise((then) => setTimeout(then, ms));
 
@@ -12,10 +22,13 @@ export class Browser {
   static async open(program = process.env.CHROMIUM ?? "chromium") {
     const browser = new Browser();
     browser.folder = mkdtempSync(join(tmpdir(), "desk-"));
-    browser.program = spawn(program, [...OPTIONS, `--user-data-dir=${browser.folder}`, "about:blank"], { stdio: ["ignore", "ignore", "ignore", "pipe", "pipe"] });
+    browser.program = spawn(program, [...OPTIONS, `--user-data-dir=${browser.folder}`, "about:blank"], { stdio: STDIO });
     Object.assign(browser, { last: 0, waiting: new Map(), events: [], rest: "" });
     browser.gone = new Promise((then) => browser.program.on("exit", then));
-    await new Promise((good, bad) => { browser.program.on("spawn", good); browser.program.on("error", () => bad(new Error(`no Chromium '${program}'. CHROMIUM can name another.`))); });
+    await new Promise((good, bad) => {
+      browser.program.on("spawn", good);
+      browser.program.on("error", () => bad(new Error(`no Chromium '${program}'. CHROMIUM can name another.`)));
+    });
     browser.program.stdio[4].on("data", (data) => browser.take(String(data)));
     const { targetInfos } = await browser.send("Target.getTargets");
     const { targetId } = targetInfos.find(({ type }) => type === "page");
@@ -55,7 +68,7 @@ export class Browser {
   }
 
   async key(key, text) {
-    const code = key.length === 1 ? `Key${key.toUpperCase()}` : key, windowsVirtualKeyCode = { Tab: 9, Enter: 13, Escape: 27, ArrowLeft: 37, ArrowUp: 38, ArrowRight: 39, ArrowDown: 40, End: 35, Home: 36 }[key];
+    const code = key.length === 1 ? `Key${key.toUpperCase()}` : key, windowsVirtualKeyCode = KEY_CODES[key];
     await this.send("Input.dispatchKeyEvent", { type: "keyDown", key, code, text, windowsVirtualKeyCode });
     await this.send("Input.dispatchKeyEvent", { type: "keyUp", key, code, windowsVirtualKeyCode });
   }
@@ -73,7 +86,10 @@ export class Browser {
 
   requests() { return this.events.filter(({ method }) => method === "Network.requestWillBeSent").map(({ params }) => params.request.url); }
   errors() {
-    const bad = ({ method, params }) => method === "Runtime.exceptionThrown" || (method === "Log.entryAdded" && params.entry.level === "error") || (method === "Runtime.consoleAPICalled" && params.type === "error");
+    const bad = ({ method, params }) =>
+      method === "Runtime.exceptionThrown" ||
+      (method === "Log.entryAdded" && params.entry.level === "error") ||
+      (method === "Runtime.consoleAPICalled" && params.type === "error");
     return this.events.filter(bad).map(({ params }) => params.exceptionDetails?.exception?.description ?? params.entry?.text ?? JSON.stringify(params.args));
   }
 

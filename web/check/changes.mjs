@@ -10,7 +10,10 @@ let state = BigInt(seed) * 0x9e3779b97f4a7c15n + 1n;
 function below(n) { state = BigInt.asUintN(64, state * 6364136223846793005n + 1442695040888963407n); return Number((state >> 33n) % BigInt(n)); }
 
 // An instruction as another of the same form; a constant as the next one.
-const OTHERS = { "icmp ult": "icmp ule", "icmp ule": "icmp ult", "icmp ugt": "icmp uge", "icmp uge": "icmp ugt", "icmp eq": "icmp ne", "icmp ne": "icmp eq", add: "sub", sub: "add", and: "or", or: "and", xor: "or", shl: "lshr", lshr: "shl", udiv: "urem", urem: "udiv", mul: "add", ashr: "lshr" };
+const OTHERS = {
+  "icmp ult": "icmp ule", "icmp ule": "icmp ult", "icmp ugt": "icmp uge", "icmp uge": "icmp ugt", "icmp eq": "icmp ne", "icmp ne": "icmp eq",
+  add: "sub", sub: "add", and: "or", or: "and", xor: "or", shl: "lshr", lshr: "shl", udiv: "urem", urem: "udiv", mul: "add", ashr: "lshr",
+};
 const FORM = new RegExp(`= (${Object.keys(OTHERS).join("|")})( (?:nuw |nsw |exact |disjoint )*)i(\\d+) (%\\w+), (%\\w+|-?\\d+)$`);
 const places = lines.map((line, n) => (FORM.test(line) ? n : -1)).filter((n) => n >= 0);
 

@@ -23,12 +23,21 @@ const b = await Browser.open(), room = mkdtempSync(join(tmpdir(), "desk-test-"))
 const quoted = JSON.stringify;
 const said = (id) => b.run(`document.getElementById("${id}").textContent`);
 const click = (css) => b.run(`document.querySelector(${quoted(css)}).click()`);
-const set = (css, value) => b.run(`(() => { const e = document.querySelector(${quoted(css)}); e.value = ${quoted(String(value))}; e.dispatchEvent(new Event("input", { bubbles: true })); e.dispatchEvent(new Event("change", { bubbles: true })); })()`);
+const set = (css, value) => b.run(`(() => {
+  const e = document.querySelector(${quoted(css)});
+  e.value = ${quoted(String(value))};
+  for (const name of ["input", "change"]) e.dispatchEvent(new Event(name, { bubbles: true }));
+})()`);
+// What a function says of each element; its text is run in the page.
+const each = (css, says) => b.run(`[...document.querySelectorAll(${quoted(css)})].map(${says})`);
 const cell = (item, field) => `[data-at="${item}:${field}"] > *`;
-const rows = (id) => b.run(`[...document.querySelectorAll("#${id} div")].map((row) => [...row.children].map((byte) => byte.textContent).join(" "))`);
+const rows = (id) => each(`#${id} div`, (row) => [...row.children].map((byte) => byte.textContent).join(" "));
 const focus = (css) => b.run(`document.querySelector(${quoted(css)}).focus()`);
 const begins = async (what, id, want) => is(what, (await said(id)).slice(0, want.length), want);
-const words = (n, ...names) => b.run(`(() => { const H = deskPage.names, line = deskPage.bench.lines()[${n}].words; return ${quoted(names)}.map((name) => line[H["LINE_" + name]]); })()`);
+const words = (n, ...names) => b.run(`(() => {
+  const H = deskPage.names, line = deskPage.bench.lines()[${n}].words;
+  return ${quoted(names)}.map((name) => line[H["LINE_" + name]]);
+})()`);
 const board = (name) => b.run(`deskPage.bench.word[deskPage.names["BOARD_${name}"]]`);
 const part = (name) => click(`#tab-${name}`);
 const shot = async (name) => shots && b.shot(join(shots, `${name}.png`));
@@ -40,6 +49,7 @@ function listOf(name) {
 }
 
 async function plan() {
+  is("nothing to undo yet", await b.run(`document.getElementById("undo").disabled`), true);
   for (const name of readdirSync(example("")).filter((each) => each.endsWith(".plan")).map((each) => each.slice(0, -5))) {
     await set("#examples", name);
     is(`the list of ${name}`, await rows("listhex"), listOf(name));
@@ -49,8 +59,8 @@ async function plan() {
   await set(cell(1, "hscroll"), "8");
   await begins("hscroll 8", "verdict", "refused 9 item 1 (field) A field of the item is out of its range.");
   is("the field is named", (await said("verdict")).includes("hscroll is 8, its range is 0 to 7"), true);
-  is("the item is marked", await b.run(`[...document.querySelectorAll("#items tbody tr")].map((row) => row.classList.contains("faulty"))`), [false, true, false]);
-  is("the field is marked", await b.run(`[...document.querySelectorAll("#items [aria-invalid=true]")].map((input) => input.closest("td").dataset.at)`), ["1:hscroll"]);
+  is("the item is marked", await each("#items tbody tr", (row) => row.classList.contains("faulty")), [false, true, false]);
+  is("the field is marked", await each("#items [aria-invalid=true]", (input) => input.closest("td").dataset.at), ["1:hscroll"]);
   await begins("memory keeps its list", "benchsay", "The plan is refused");
   if (shots) await b.shot(join(room, "refused.png"));
   await set(cell(1, "hscroll"), "$100");
@@ -67,7 +77,7 @@ async function plan() {
   is("the range of the field is said", await said("byte"), "item 2, lines, 1 to 240");
   is("down twice", await b.run("document.activeElement.closest('td').dataset.at"), "2:lines");
   await click("[data-do=up]");
-  is("moved up", await b.run(`[...document.querySelectorAll("#items tbody .number:first-child")].map((cell) => cell.textContent)`), ["0", "1 ↳", "2 ↳"]);
+  is("moved up", await each("#items tbody .number:first-child", (cell) => cell.textContent), ["0", "1 ↳", "2 ↳"]);
   await set(cell(0, "lines"), "80");
   await b.run("deskPage.views.plan.choose(0)");
   await click("[data-do=remove]");
@@ -83,7 +93,7 @@ async function plan() {
   await focus("#listhex");
   for (let i = 0; i < 3; i++) await b.key("ArrowRight");
   is("the third byte", await said("byte"), "item 0 · $07 = 7 · RPTL, repeat: 7");
-  is("its field is marked", await b.run(`[...document.querySelectorAll("#items td.hit")].map((td) => td.dataset.at)`), ["0:lines"]);
+  is("its field is marked", await each("#items td.hit", (td) => td.dataset.at), ["0:lines"]);
 }
 
 async function files() {
@@ -117,11 +127,27 @@ async function files() {
 }
 
 // crates/planlines/stdout: what each line of the examples shows with the list at 7FFF8h, worked out by a second program.
+const TOLD = [
+  /line (\d+): (\w+) (\w+) step (\d+) scroll (\d+) (\d+) font (\w+) counter (\d+)/,
+  /map (\w+) (\w+) step (\d+) scroll (\d+) (\d+) field (\d+)x(\d+) counter (\d+)/,
+  /width (\d) palettes (\d) (\d) priority (\w+)/,
+  /record (\w+)/,
+  /item (\d+)/,
+];
 function expectedLines(name) {
   const section = text("crates/planlines/stdout").split(/^(?=\S+\.plan$)/m).find((each) => each.startsWith(`${name}.plan\n`));
-  return [...section.matchAll(/^line (\d+): (\w+) (\w+) step (\d+) scroll (\d+) (\d+) font (\w+) counter (\d+); map (\w+) (\w+) step (\d+) scroll (\d+) (\d+) field (\d+)x(\d+) counter (\d+); width (\d) palettes (\d) (\d) priority (\w+); record (\w+); item (\d+)/gm)].map((row) => row.slice(1));
+  const told = new RegExp("^" + TOLD.map((part) => part.source).join("; "), "gm");
+  return [...section.matchAll(told)].map((row) => row.slice(1));
 }
-const MODES = ["off", "text", "SR", "HR", "LR"];
+
+// The same as the words of the settings, in the header's order.
+const MODES = ["off", "text", "sr", "hr", "lr"];
+function settingsOf([mode, address, step, hs, vs, font, counter, map, mapAddress, mapStep, mhs, mvs, fw, fh, fc, width, op, pp, priority, record]) {
+  const sixteen = (digits) => parseInt(digits, 16);
+  const overlay = [MODES.indexOf(mode.toLowerCase()), sixteen(address), +step, +hs, +vs, sixteen(font), +counter];
+  const attributes = [map === "on" ? 1 : 0, sixteen(mapAddress), +mapStep, +mhs, +mvs, +fw, +fh, +fc];
+  return [...overlay, ...attributes, +width, +op, +pp, sixteen(priority), sixteen(record)];
+}
 
 async function lines() {
   await part("lines");
@@ -131,11 +157,12 @@ async function lines() {
     await set("#examples", name);
     const want = expectedLines(name);
     is(`planlines has ${name}`, want.length > 5, true);
-    for (const [n, mode, address, step, hs, vs, font, counter, map, mapAddress, mapStep, mhs, mvs, fw, fh, fc, width, op, pp, priority, record, item] of want) {
-      const sixteen = (digits) => parseInt(digits, 16);
-      is(`${name}, line ${n}`, await b.run(`[...deskPage.bench.lines()[${n}].words]`), [MODES.map((each) => each.toLowerCase()).indexOf(mode.toLowerCase()), sixteen(address), +step, +hs, +vs, sixteen(font), +counter, map === "on" ? 1 : 0, sixteen(mapAddress), +mapStep, +mhs, +mvs, +fw, +fh, +fc, +width, +op, +pp, sixteen(priority), sixteen(record)]);
+    for (const [n, ...told] of want) {
+      const [record, item] = told.slice(-2);
+      is(`${name}, line ${n}`, await b.run(`[...deskPage.bench.lines()[${n}].words]`), settingsOf(told));
       await b.run(`deskPage.views.lines.choose(${n})`);
-      is(`${name}, line ${n}: its record`, (await said("recordsay")).replace(/, read.*\. It/, ": It"), `The record at $${record}: It is item ${item} of the plan.`);
+      const origin = (await said("recordsay")).replace(/, read.*\. It/, ": It");
+      is(`${name}, line ${n}: its record`, origin, `The record at $${record}: It is item ${item} of the plan.`);
       seen++;
     }
   }
@@ -159,7 +186,8 @@ async function lines() {
   await begins("no address", "benchsay", "'here' is no address");
   await set("#at", "0");
   await click("#on");
-  is("not switched on", [...(await words(0, "MODE", "ADDRESS", "RECORD")), await said("recordsay")], [0, 0, 524288, "No record was read: the list is not switched on."]);
+  const off = [...(await words(0, "MODE", "ADDRESS", "RECORD")), await said("recordsay")];
+  is("not switched on", off, [0, 0, 524288, "No record was read: the list is not switched on."]);
   await click("#on");
   await set("#from", "memory");
   await begins("as memory has it", "benchsay", "XDL_ADR is $00000; nothing is installed.");
@@ -179,11 +207,23 @@ async function picture() {
   await set("#examples", "small_screen");
   const png = readFileSync(example("small_screen.png")).toString("base64");
   const differ = () => b.run(`(async () => {
-    const image = new Image(); image.src = "data:image/png;base64,${png}"; await image.decode();
-    const of = (source) => { const c = document.createElement("canvas"); c.width = 672; c.height = 240; const x = c.getContext("2d"); x.imageSmoothingEnabled = false; x.drawImage(source, 0, 0, 672, 240); return x.getImageData(0, 0, 672, 240).data; };
-    const want = of(image), got = of(deskPage.views.picture.picture.now()); let wrong = 0, clear = 0;
+    const image = new Image();
+    image.src = "data:image/png;base64,${png}";
+    await image.decode();
+    const pointsOf = (source) => {
+      const canvas = Object.assign(document.createElement("canvas"), { width: 672, height: 240 }), context = canvas.getContext("2d");
+      context.imageSmoothingEnabled = false;
+      context.drawImage(source, 0, 0, 672, 240);
+      return context.getImageData(0, 0, 672, 240).data;
+    };
+    const want = pointsOf(image), got = pointsOf(deskPage.views.picture.picture.now());
     const at = (data, i) => data[4 * i] + "," + data[4 * i + 1] + "," + data[4 * i + 2];
-    for (let i = 0; i < 672 * 240; i++) { const w = at(want, i), g = at(got, i); if (w === "32,32,48") { clear++; if (g !== "32,32,48" && g !== "42,42,60") wrong++; } else if (w !== g) wrong++; }
+    let wrong = 0, clear = 0;
+    for (let i = 0; i < 672 * 240; i++) {
+      const w = at(want, i), g = at(got, i), transparent = w === "32,32,48";
+      if (transparent) clear++;
+      if (transparent ? g !== "32,32,48" && g !== "42,42,60" : w !== g) wrong++;
+    }
     return [image.width, image.height, wrong, clear > 1000];
   })()`);
   const [wide, high, wrong, clear] = await differ();
@@ -193,7 +233,8 @@ async function picture() {
   await b.run(`deskPage.views.picture.point(120, 0)`);
   is("a line that is off", await said("point"), "line 0 · no pixels: the overlay is off");
   await b.run(`deskPage.views.picture.point(16 + 2 * 60, 46 + 79)`);
-  is("a pixel", await said("point"), `line 125 · 320 pixels · pixel 60: palette 2, colour $${readFileSync(example("small_screen.mem"))[0x1000 + 79 * 320 + 60].toString(16).toUpperCase().padStart(2, "0")}`);
+  const colour = readFileSync(example("small_screen.mem"))[0x1000 + 79 * 320 + 60].toString(16).toUpperCase().padStart(2, "0");
+  is("a pixel", await said("point"), `line 125 · 320 pixels · pixel 60: palette 2, colour $${colour}`);
   await click("#notrans");
   is("no_trans", await b.run("deskPage.bench.lines().some(({ pixels }) => pixels.includes(65535))"), false);
   await click("#notrans");
@@ -212,7 +253,12 @@ async function picture() {
   await set("#palettes fieldset:nth-child(3) select", "red, green, blue");
   // a file dropped on the picture, to an address
   await set("#loadat", "$01000");
-  await b.run(`(async () => { const data = new DataTransfer(); data.items.add(new File([new Uint8Array(25600).fill(0xe0)], "red.bin")); document.getElementById("whole").dispatchEvent(new DragEvent("drop", { dataTransfer: data, bubbles: true, cancelable: true })); })()`);
+  await b.run(`(async () => {
+    const data = new DataTransfer();
+    data.items.add(new File([new Uint8Array(25600).fill(0xe0)], "red.bin"));
+    const drop = new DragEvent("drop", { dataTransfer: data, bubbles: true, cancelable: true });
+    document.getElementById("whole").dispatchEvent(drop);
+  })()`);
   await sleep(200);
   is("a dropped file", await said("benchsay"), "red.bin: 25,600 bytes are in memory from $01000 on.");
   is("the frame shows it", await b.run("[...new Set(deskPage.bench.lines()[60].pixels)]"), [2 * 256 + 0xe0]);
@@ -221,7 +267,8 @@ async function picture() {
   await begins("an address too high for a file", "benchsay", "small_screen.mem: install is refused 14 (address)");
   await set("#loadat", "$7FFFF");
   await b.choose("load", example("small_screen.mem"));
-  is("a file past the end goes on at 0", await b.run("[deskPage.bench.byte(524287), deskPage.bench.byte(0)]"), [...readFileSync(example("small_screen.mem")).subarray(0, 2)]);
+  const [first, second] = readFileSync(example("small_screen.mem"));
+  is("a file past the end goes on at 0", await b.run("[deskPage.bench.byte(524287), deskPage.bench.byte(0)]"), [first, second]);
   const got = mkdtempSync(join(room, "saved-"));
   await b.send("Browser.setDownloadBehavior", { behavior: "allow", downloadPath: got });
   for (const id of ["#savepicture", "#savememory"]) { await click(id); await sleep(500); }
@@ -230,13 +277,35 @@ async function picture() {
   await set("#content", "example");
 }
 
-// Ticks of each scene: one for the load of each block, and W·ZX·H·ZY for its bytes. The code, and how many bytes of memory differ, where the scene is about it.
+// Ticks of each scene: one for the load of each block, and W·ZX·H·ZY for its bytes. The code, and how many bytes of memory differ, where the
+// scene is about it.
 const SCENES = [
-  ["a ball over the hills", 1 + 32 * 32], ["collisions go by ranges", 4 + 2 * 60 * 60 + 2 * 32 * 32, { code: 0x20 }], ["a block rewrites the next one", 2 + 1 + 100 * 60], ["zoom does not zoom the step", 1 + 96 * 96], ["a row begins from the row's beginning", 1 + 90 * 50],
-  ["zoomed 5 by 4", 1 + 160 * 128], ["mirrored, and upside down", 2 + 2 * 32 * 32], ["a pattern of 16", 1 + 240 * 80], ["nibbles", 1 + 128 * 64], ["a pointer drawn twice", 2 + 2 * 200 * 120, { changed: "0" }], ["a smear", 1 + 180 * 90], ["the display list is memory too", 2, { changed: "1" }], ["a text row runs on", 1 + 80],
+  ["a ball over the hills", 1 + 32 * 32],
+  ["collisions go by ranges", 4 + 2 * 60 * 60 + 2 * 32 * 32, { code: 0x20 }],
+  ["a block rewrites the next one", 2 + 1 + 100 * 60],
+  ["zoom does not zoom the step", 1 + 96 * 96],
+  ["a row begins from the row's beginning", 1 + 90 * 50],
+  ["zoomed 5 by 4", 1 + 160 * 128],
+  ["mirrored, and upside down", 2 + 2 * 32 * 32],
+  ["a pattern of 16", 1 + 240 * 80],
+  ["nibbles", 1 + 128 * 64],
+  ["a pointer drawn twice", 2 + 2 * 200 * 120, { changed: "0" }],
+  ["a smear", 1 + 180 * 90],
+  ["the display list is memory too", 2, { changed: "1" }],
+  ["a text row runs on", 1 + 80],
 ];
-const state = (name) => b.run(`[...document.querySelectorAll("#state div")].find((each) => each.firstChild.textContent === ${quoted(name)}).querySelector("b").textContent`);
-const blockField = (legend, name, value) => b.run(`(() => { const set = [...document.querySelectorAll("#blocks fieldset")].find((each) => each.querySelector("legend").textContent === ${quoted(legend)}); const input = [...set.querySelectorAll("label")].find((each) => each.firstChild.textContent === ${quoted(name)}).querySelector("input, select"); input.value = ${quoted(String(value))}; input.dispatchEvent(new Event("input")); })()`);
+const state = (name) => b.run(`(() => {
+  const cell = [...document.querySelectorAll("#state div")].find((each) => each.firstChild.textContent === ${quoted(name)});
+  return cell.querySelector("b").textContent;
+})()`);
+const blockField = (legend, name, value) => b.run(`(() => {
+  const sets = [...document.querySelectorAll("#blocks fieldset")];
+  const set = sets.find((each) => each.querySelector("legend").textContent === ${quoted(legend)});
+  const label = [...set.querySelectorAll("label")].find((each) => each.firstChild.textContent === ${quoted(name)});
+  const input = label.querySelector("input, select");
+  input.value = ${quoted(String(value))};
+  input.dispatchEvent(new Event("input"));
+})()`);
 
 async function blitter() {
   await part("blitter");
@@ -271,7 +340,8 @@ async function blitter() {
   await click("#blocks .choices button[aria-label='Remove the block']");
   is("one block", await b.run("deskPage.views.blitter.blocks.length"), 1);
 
-  is("the scenes", await b.run(`[...document.querySelectorAll("#scenes option")].map((each) => each.value).filter(Boolean)`), SCENES.map(([name]) => name));
+  const offered = (await each("#scenes option", (option) => option.value)).filter(Boolean);
+  is("the scenes", offered, SCENES.map(([name]) => name));
   for (const [name, ticks, about = {}] of SCENES) {
     await set("#scenes", name);
     is(`${name}: is explained`, (await said("scenesay")).length > 40, true);
@@ -286,16 +356,20 @@ async function blitter() {
   is("the second block fills with green, as the first one wrote it", await pixel(100, 160), 256 + 32 + 4 * 6);
   await set("#scenes", "a row begins from the row's beginning");
   await click("[data-do=run]");
-  is("each row begins three points further", [await pixel(60, 40), await pixel(61, 43), (await pixel(61, 42)) !== 256 + 0xff, await pixel(109, 40 + 49 * 3)], [256 + 0xff, 256 + 0xff, true, 256 + 0xff]);
+  const white = 256 + 0xff;
+  const leaning = [await pixel(60, 40), await pixel(61, 43), (await pixel(61, 42)) !== white, await pixel(109, 40 + 49 * 3)];
+  is("each row begins three points further", leaning, [white, white, true, white]);
   await set("#scenes", "zoom does not zoom the step");
-  const before = await pixel(105, 60 + 2 * 48 + 1);
+  const column = 60 + 2 * 48, before = await pixel(105, column + 1);
   await click("[data-do=run]");
-  is("every second byte is written", [await pixel(105, 60 + 2 * 48 + 1), (await pixel(105, 60 + 2 * 48)) === 256 + (await byte(0xc400 + (8 + 15) * 320 + 8 + 16))], [before, true]);
+  const source = await byte(0xc400 + (8 + 15) * 320 + 8 + 16);
+  is("every second byte is written", [await pixel(105, column + 1), (await pixel(105, column)) === 256 + source], [before, true]);
   await set("#scenes", "the display list is memory too");
   await click("[data-do=run]");
   is("the frame's step is another", await words(0, "STEP"), [321]);
   await set("#scenes", "a text row runs on");
-  is("the row's counter goes on", await Promise.all([100, 101, 102, 103, 104, 107, 108, 115].map(async (n) => (await words(n, "TEXT_COUNTER"))[0])), [0, 1, 2, 3, 4, 7, 0, 7]);
+  const counters = await Promise.all([100, 101, 102, 103, 104, 107, 108, 115].map(async (n) => (await words(n, "TEXT_COUNTER"))[0]));
+  is("the row's counter goes on", counters, [0, 1, 2, 3, 4, 7, 0, 7]);
   await set("#scenes", "a ball over the hills");
   await b.key("s", "s");
   for (let i = 0; i < 14; i++) await b.key("r", "r");
@@ -303,26 +377,37 @@ async function blitter() {
   await sleep(100);
   await shot("blitter");
   is("what the blitter paints is what the frame shows", await pixel(96 + 8, 150 + 16), 256 + (await byte(0xc400 + (8 + 8) * 320 + 8 + 16)));
+  const pressed = () => b.run(`document.getElementById("play").getAttribute("aria-pressed")`);
   await set("#scenes", "zoomed 5 by 4");
   await set("#speed", 9);
   await b.key("p", "p");
   await sleep(100);
-  is("it plays", await b.run(`document.getElementById("play").getAttribute("aria-pressed")`), "true");
+  is("it plays", await pressed(), "true");
   await sleep(1500);
-  is("it played to the end", [await state("FLAGS"), await state("ticks"), await b.run(`document.getElementById("play").getAttribute("aria-pressed")`)], ["0 IDLE", "20,481", "false"]);
+  is("it played to the end", [await state("FLAGS"), await state("ticks"), await pressed()], ["0 IDLE", "20,481", "false"]);
 }
 
 // Every button, field and list that is seen can be reached by the Tab key, and the parts by the arrow keys.
+const REACHABLE = [
+  "header button:not([tabindex='-1'])",
+  "#bench :is(button, select, input, label.button)",
+  "main:not([hidden]) :is(button, select, input, textarea, label.button, [tabindex='0'])",
+];
 async function keyboard() {
+  const wanted = `[...document.querySelectorAll(${quoted(REACHABLE.join(", "))})].filter((e) => e.checkVisibility() && !e.disabled)`;
+  const nameless = `${wanted}.filter((e) => /INPUT|SELECT|TEXTAREA/.test(e.tagName) && !e.labels?.length && !e.ariaLabel)`;
   for (const name of ["plan", "lines", "picture", "blitter"]) {
     await part(name);
-    await b.run(`(() => { globalThis.reached = new Set(); document.activeElement.blur(); document.addEventListener("focusin", (event) => reached.add(event.target)); })()`);
-    const wanted = `[...document.querySelectorAll("header button:not([tabindex='-1']), #bench :is(button, select, input, label.button), main:not([hidden]) :is(button, select, input, textarea, label.button, [tabindex='0'])")].filter((e) => e.checkVisibility() && !e.disabled)`;
+    await b.run(`(() => {
+      globalThis.reached = new Set();
+      document.activeElement.blur();
+      document.addEventListener("focusin", (event) => reached.add(event.target));
+    })()`);
     const many = await b.run(`${wanted}.length`);
     for (let i = 0; i < many + 12; i++) await b.key("Tab");
     is(`${name}: not reached by Tab`, await b.run(`${wanted}.filter((e) => !reached.has(e)).map((e) => e.id || e.ariaLabel || e.textContent)`), []);
     is(`${name}: has something to reach`, many > 12, true);
-    is(`${name}: all have a name`, await b.run(`${wanted}.filter((e) => /INPUT|SELECT|TEXTAREA/.test(e.tagName) && !e.labels?.length && !e.ariaLabel).map((e) => e.id || e.outerHTML.slice(0, 60))`), []);
+    is(`${name}: all have a name`, await b.run(`${nameless}.map((e) => e.id || e.outerHTML.slice(0, 60))`), []);
   }
   await focus("#tab-blitter");
   await b.key("ArrowRight");
@@ -343,11 +428,13 @@ async function narrow() {
 
 // The page for renters, in the page.
 async function guide() {
+  const open = () => b.run(`document.getElementById("guide").open`);
+  const heads = [...text("docs/BROWSER.md").matchAll(/^## (.*)$/gm)].map(([, head]) => head);
   await click("#helpbutton");
-  is("the guide", await b.run(`[document.getElementById("guide").open, [...document.querySelectorAll("#guide h3")].map((each) => each.textContent)]`), [true, [...text("docs/BROWSER.md").matchAll(/^## (.*)$/gm)].map(([, head]) => head)]);
+  is("the guide", [await open(), await each("#guide h3", (head) => head.textContent)], [true, heads]);
   if (shots) await b.shot(join(room, "guide.png"));
   await b.key("Escape");
-  is("the guide is closed by key", await b.run(`document.getElementById("guide").open`), false);
+  is("the guide is closed by key", await open(), false);
 }
 
 async function themes() {
@@ -360,7 +447,11 @@ async function themes() {
 
 // From a server: the same page; it asks for nothing else, and its policy forbids to.
 async function served() {
-  const asked = [], server = createServer((request, answer) => { asked.push(request.url); answer.setHeader("content-type", "text/html"); answer.end(readFileSync(page)); });
+  const asked = [], server = createServer((request, answer) => {
+    asked.push(request.url);
+    answer.setHeader("content-type", "text/html");
+    answer.end(readFileSync(page));
+  });
   await new Promise((then) => server.listen(0, "127.0.0.1", then));
   const from = `http://127.0.0.1:${server.address().port}/desk.html`;
   await b.theme("light");
@@ -368,12 +459,19 @@ async function served() {
   await begins("from a server", "verdict", "XDL 214 240 of 240 lines.");
   is("by the system's choice", await b.run("document.documentElement.dataset.theme"), "light");
   await part("lines");
+  await b.size(1300, 830);
   await b.run("deskPage.views.lines.choose(97)");
   await sleep(100);
   await shot("lines");
   is("no errors from a server", b.errors(), []);
   is("fetch is forbidden", await b.run(`fetch("/other").then(() => "fetched", () => "forbidden")`), "forbidden");
-  is("so is a picture from elsewhere", await b.run(`new Promise((then) => { const image = new Image(); image.onload = () => then("loaded"); image.onerror = () => then("forbidden"); image.src = "/other.png"; })`), "forbidden");
+  const elsewhere = await b.run(`new Promise((then) => {
+    const image = new Image();
+    image.onload = () => then("loaded");
+    image.onerror = () => then("forbidden");
+    image.src = "/other.png";
+  })`);
+  is("so is a picture from elsewhere", elsewhere, "forbidden");
   is("the server was asked once", asked, ["/desk.html"]);
   server.close();
 }
@@ -394,10 +492,13 @@ function guards() {
   refuses("a global", "width.mjs", [other("c.ll", /^define/m, "@table = global [4 x i8] zeroinitializer\ndefine")], "a global or a named type");
   refuses("a move of a computed length", "width.mjs", [other("d.ll", /(llvm\.memmove\S+\(ptr %\w+, ptr %\w+, i64 )16/, "$1%r1")], "a computed length");
   // the length of a slice read from where its pointer is: half of those 8 bytes is undefined with 32 bits
-  refuses("a place for both, in another function", "width.mjs", [other("e.ll", /(define internal noundef i32 @"capi::deskboard_new"[\s\S]*?getelementptr i8, ptr %r\d+, i64 )8/, "$10")], "a place that holds a pointer and a number");
-  refuses("another width of an address", "width.mjs", [other("f.ll", /getelementptr i8, ptr (%\w+), i64 8/, "getelementptr i32, ptr $1, i32 2")], "not a pointer and a 64-bit number");
+  const both = other("e.ll", /(define internal noundef i32 @"capi::deskboard_new"[\s\S]*?getelementptr i8, ptr %r\d+, i64 )8/, "$10");
+  refuses("a place for both, in another function", "width.mjs", [both], "a place that holds a pointer and a number");
+  const wide = other("f.ll", /getelementptr i8, ptr (%\w+), i64 8/, "getelementptr i32, ptr $1, i32 2");
+  refuses("another width of an address", "width.mjs", [wide], "not a pointer and a 64-bit number");
   const header = join(top, "include/deskboard.h"), more = join(room, "more.h");
-  writeFileSync(more, text("include/deskboard.h").replace("uint32_t deskboard_new(", "uint32_t deskboard_sprite(uint32_t *board, size_t board_len);\nuint32_t deskboard_new("));
+  const sprite = "uint32_t deskboard_sprite(uint32_t *board, size_t board_len);\n";
+  writeFileSync(more, text("include/deskboard.h").replace("uint32_t deskboard_new(", `${sprite}uint32_t deskboard_new(`));
   refuses("a call that is not there", "exports.mjs", [join(top, "target/web/desk.wasm"), more], "it lacks exports of the header: deskboard_sprite");
   // (import "env" "memset" (func)), and nothing else
   writeFileSync(join(room, "import.wasm"), Buffer.from("0061736d01000000010401600000020e0103656e76066d656d7365740000", "hex"));
@@ -419,7 +520,8 @@ try {
   await shot("plan");
   for (const each of [plan, files, lines, picture, blitter, keyboard, guide, themes, narrow]) await each();
   is("no errors from the disk", b.errors(), []);
-  is("no request but for the page and what it saves", [...new Set(b.requests().filter((asked) => asked !== "about:blank" && !/^(blob|data):/.test(asked)))], [url]);
+  const asked = b.requests().filter((address) => address !== "about:blank" && !/^(blob|data):/.test(address));
+  is("no request but for the page and what it saves", [...new Set(asked)], [url]);
   await served();
   guards();
 } finally {

@@ -3,7 +3,8 @@ const low = (value, many) => Array.from({ length: many }, (_, i) => Math.floor(v
 
 // 512 by 256 bytes, from 0 to 262,144, all one behind the other; what differs is named.
 function block({ width = 512, height = 256, stepY = 512, and = 255, xor = 0, mask = 0, zoom = 0, pattern = 0, mode = 0 }, next) {
-  return [...low(0, 3), ...low(stepY, 2), 1, ...low(262144, 3), ...low(stepY, 2), 1, ...low(width - 1, 2), height - 1, and, xor, mask, zoom, pattern, mode + (next ? 8 : 0)];
+  const source = [...low(0, 3), ...low(stepY, 2), 1], destination = [...low(262144, 3), ...low(stepY, 2), 1];
+  return [...source, ...destination, ...low(width - 1, 2), height - 1, and, xor, mask, zoom, pattern, mode + (next ? 8 : 0)];
 }
 const seven = (values) => Array.from({ length: 7 }, (_, i) => block(values, i < 6)).flat();
 
@@ -30,4 +31,7 @@ function inC(name, works) {
   const rows = works.map((work) => `    {"${work.name}", ${work.bytes.length}, {${work.bytes.join(", ")}}},`);
   return `static const struct work ${name}[] = {\n${rows.join("\n")}\n};\n`;
 }
-if (process.argv[1]?.endsWith("works.mjs")) console.log(`enum { LIST_AT = ${LIST_AT}, AGAIN = ${AGAIN}, SAMPLES = ${SAMPLES} };\n${inC("lists", LISTS)}${inC("frames", FRAMES)}`);
+if (process.argv[1]?.endsWith("works.mjs")) {
+  const numbers = `enum { LIST_AT = ${LIST_AT}, AGAIN = ${AGAIN}, SAMPLES = ${SAMPLES} };`;
+  console.log(`${numbers}\n${inC("lists", LISTS)}${inC("frames", FRAMES)}`);
+}

@@ -50,8 +50,8 @@ function header() {
 // ---- docs/HELP.md: the refusals, and the fields of an item
 const SHEET = "docs/HELP.md";
 function sheet(refusals) {
-  const all = {};
-  for (const [no, name, calls, did, todo] of rows(between(SHEET, "## The refusal numbers", "If several numbers"))) if (/^\d+$/.test(no)) all[no] = { name, calls, did, todo };
+  const all = {}, table = rows(between(SHEET, "## The refusal numbers", "If several numbers"));
+  for (const [no, name, calls, did, todo] of table) if (/^\d+$/.test(no)) all[no] = { name, calls, did, todo };
   for (const [name, no] of refusals) need(no === 0 || all[no], SHEET, `no row for DESKBOARD_${name}, ${no}`);
   return all;
 }
@@ -82,6 +82,12 @@ function fields(widths) {
 
 // ---- docs/RULES.md: a record's control bits with their data, in the order of the data; and the blitter's modes
 const RULES = "docs/RULES.md";
+// 'map step (2)' and 'font (1 byte)' are a name and its bytes; 'hscroll' is one byte.
+function datum(said) {
+  const [, name, size = "1"] = said.match(/^(.*?)(?: \((\d)(?: byte)?\))?$/);
+  return { name, size: Number(size) };
+}
+
 function record() {
   const bits = [[], []], data = [];
   for (const row of rows(between(RULES, "**R34. A record**", "**R35.")).filter((row) => /^\d$/.test(row[0])))
@@ -89,8 +95,7 @@ function record() {
       bits[byte][Number(bit)] = name;
       const is = holds.match(/^(\d)(?:st|nd|rd|th): (.*)$/);
       if (!is) return;
-      const parts = is[2].split(", ").map((part) => { const [, what, size = "1"] = part.match(/^(.*?)(?: \((\d)(?: byte)?\))?$/); return { name: what, size: Number(size) }; });
-      data[Number(is[1]) - 1] = { byte, bit: Number(bit), parts };
+      data[Number(is[1]) - 1] = { byte, bit: Number(bit), parts: is[2].split(", ").map(datum) };
     });
   need(bits.every((b) => b.length === 8) && data.length === 7 && data.every(Boolean), RULES, "R34: not 16 bits and 7 kinds of data");
   return { bits, data };
@@ -128,16 +133,27 @@ function guide() {
 
 // Each name of the header that the page's script uses must be there.
 function used(numbers) {
-  for (const name of readdirSync(join(top, "web/page")).filter((name) => name.endsWith(".js")))
-    for (const [, word] of text(`web/page/${name}`).matchAll(/\bH\.([A-Z0-9_]+)/g)) need(word in numbers, `web/page/${name}`, `${HEADER} has no DESKBOARD_${word}`);
+  for (const name of readdirSync(join(top, "web/page")).filter((name) => name.endsWith(".js"))) {
+    const words = text(`web/page/${name}`).matchAll(/\bH\.([A-Z0-9_]+)/g);
+    for (const [, word] of words) need(word in numbers, `web/page/${name}`, `${HEADER} has no DESKBOARD_${word}`);
+  }
 }
 
 const { enums, numbers, calls } = header();
 used(numbers);
 const base64 = (file) => readFileSync(file).toString("base64");
 const out = {
-  NUMBERS: numbers, ENUMS: enums, CALLS: calls, SHEET: sheet(enums.refusal), FIELDS: fields(enums.width), RECORD: record(), WRITES: modes(), EXAMPLES: examples(), GUIDE: guide(),
-  MEMORY: base64(join(top, "examples/small_screen.mem")), MODULE: base64(module),
+  NUMBERS: numbers,
+  ENUMS: enums,
+  CALLS: calls,
+  SHEET: sheet(enums.refusal),
+  FIELDS: fields(enums.width),
+  RECORD: record(),
+  WRITES: modes(),
+  EXAMPLES: examples(),
+  GUIDE: guide(),
+  MEMORY: base64(join(top, "examples/small_screen.mem")),
+  MODULE: base64(module),
 };
 console.log("// Made by web/build out of the header, the help sheet, the rules, the examples and the module.");
 for (const [name, value] of Object.entries(out)) console.log(`export const ${name} = ${JSON.stringify(value)};`);

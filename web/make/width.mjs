@@ -5,7 +5,11 @@
 // also not in another function; moves and fills have constant lengths; no call through a pointer, no recursion, no globals.
 import { readFileSync } from "node:fs";
 
-const KNOWN = new Set("store load alloca getelementptr call zext sext trunc br ret icmp add sub mul udiv urem sdiv srem and or xor shl lshr ashr switch unreachable select phi".split(" "));
+const KNOWN = new Set([
+  "alloca", "load", "store", "getelementptr", "call", "br", "switch", "ret", "unreachable",
+  "zext", "sext", "trunc", "icmp", "select", "phi",
+  "add", "sub", "mul", "udiv", "urem", "sdiv", "srem", "and", "or", "xor", "shl", "lshr", "ashr",
+]);
 const INTRINSICS = /^llvm\.(memmove\.p0\.p0\.i64|memset\.p0\.i64|trap|ctpop\.i64)$/;
 const MOST_OFFSET = 4096, MOST_STACK = 16384, POINTER = 8;
 
@@ -38,7 +42,10 @@ let now = null;
 const place = (base, offset) => `${now.name} ${base}+${offset}`;
 const based = (register) => now.bases.get(register) ?? [register, 0];
 
-const open = (line, name) => functions.set(name, (now = { name, calls: new Set(), passed: [], stack: 0, bases: new Map(), loaded: new Set(), rooms: new Map() }));
+function open(name) {
+  now = { name, calls: new Set(), passed: [], stack: 0, bases: new Map(), loaded: new Set(), rooms: new Map() };
+  functions.set(name, now);
+}
 
 const is = {
   alloca(line, result) {
@@ -89,13 +96,14 @@ function intrinsic(to, line) {
   if (!length) return fault("a move or a fill of a computed length", line);
   if (to.includes("memset")) return;
   const [a, b] = [...line.matchAll(/ptr (%[\w.]+)/g)].map(([, register]) => based(register));
-  for (let i = 0; i < Number(length[1]); i += POINTER) if (!now.loaded.has(a[0]) && !now.loaded.has(b[0])) join(place(a[0], a[1] + i), place(b[0], b[1] + i), line);
+  if (now.loaded.has(a[0]) || now.loaded.has(b[0])) return;
+  for (let i = 0; i < Number(length[1]); i += POINTER) join(place(a[0], a[1] + i), place(b[0], b[1] + i), line);
 }
 
 function read(line) {
   if (/^@|^%.* = type/.test(line)) fault("a global or a named type", line);
   const define = line.match(/^define .*?@("[^"]+"|[\w.$]+)\(/);
-  if (define) return open(line, define[1]);
+  if (define) return open(define[1]);
   if (line.startsWith("}")) return void (now = null);
   const code = line.match(/^\s+(?:(%[\w.]+) = )?(?:tail |musttail )?([a-z]+)\b/);
   if (!now || !code || /^\s+i\d+ -?\d+, label/.test(line)) return; // the last is a case of a switch
@@ -109,18 +117,29 @@ function read(line) {
 // What a parameter points to is what was passed for it, as far as any function looks into it.
 function passed() {
   const offsets = new Map();
+  // Notes that a function looks into what its parameter points to; true where the offset is a new one.
+  const looks = (parameter, offset) => {
+    const known = offsets.get(parameter) ?? new Set();
+    if (known.has(offset)) return false;
+    offsets.set(parameter, known.add(offset));
+    return true;
+  };
   for (const at of [...kinds.keys(), ...parents.keys()]) {
     const [, name, base, offset] = at.match(/^(.*) (%[\w.]+)\+(\d+)$/);
-    if (base.startsWith("%a")) offsets.set(`${name} ${base}`, (offsets.get(`${name} ${base}`) ?? new Set()).add(Number(offset)));
+    if (base.startsWith("%a")) looks(`${name} ${base}`, Number(offset));
   }
   for (let more = true; more; ) {
     more = false;
     for (const { name, passed, loaded } of functions.values())
       for (const { to, parameter, base: [base, at], line } of passed)
         for (const offset of offsets.get(`${to} ${parameter}`) ?? []) {
-          if (loaded.has(base)) { if (kinds.get(root(`${to} ${parameter}+${offset}`)) === "pointer") fault("a pointer in lent memory, by a call", line); continue; }
-          if (base.startsWith("%a")) { const own = offsets.get(`${name} ${base}`) ?? new Set(); if (!own.has(at + offset)) { offsets.set(`${name} ${base}`, own.add(at + offset)); more = true; } }
-          join(`${to} ${parameter}+${offset}`, `${name} ${base}+${at + offset}`, line);
+          const there = `${to} ${parameter}+${offset}`;
+          if (loaded.has(base)) {
+            if (kinds.get(root(there)) === "pointer") fault("a pointer in lent memory, by a call", line);
+            continue;
+          }
+          if (base.startsWith("%a") && looks(`${name} ${base}`, at + offset)) more = true;
+          join(there, `${name} ${base}+${at + offset}`, line);
         }
   }
 }
@@ -130,7 +149,10 @@ function deepest(cost) {
   const known = new Map();
   const deep = (name, path) => {
     if (path.includes(name)) return faults.add(`recursion: ${[...path, name].join(" > ")}`), 0;
-    if (!known.has(name)) known.set(name, cost(functions.get(name)) + Math.max(0, ...[...(functions.get(name)?.calls ?? [])].map((next) => deep(next, [...path, name]))));
+    if (!known.has(name)) {
+      const calls = [...(functions.get(name)?.calls ?? [])], below = calls.map((next) => deep(next, [...path, name]));
+      known.set(name, cost(functions.get(name)) + Math.max(0, ...below));
+    }
     return known.get(name);
   };
   return Math.max(...[...functions.keys()].map((name) => deep(name, [])));

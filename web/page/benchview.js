@@ -17,6 +17,15 @@ const CONTENTS = {
   empty: ["all 0", () => new Uint8Array(0)],
 };
 
+// A label that stands for a file's input is pressed by Enter and by the space key, as a button is.
+function pressedByKey(label) {
+  label.onkeydown = (event) => {
+    if (!/^(Enter| )$/.test(event.key)) return;
+    event.preventDefault();
+    label.querySelector("input").click();
+  };
+}
+
 export class BenchView {
   constructor(bench, plan) {
     Object.assign(this, { bench, plan });
@@ -29,7 +38,7 @@ export class BenchView {
     for (const id of ["at", "from", "on", "notrans", "trans15", "own"]) $(id).oninput = () => this.lay();
     onFile($("load"), (bytes, name) => this.load(bytes, name));
     $("savememory").onclick = () => save("memory.bin", bench.memory.view.slice());
-    for (const id of ["loadbutton", "openbutton"]) $(id).onkeydown = (event) => { if (/^(Enter| )$/.test(event.key)) { event.preventDefault(); $(id).querySelector("input").click(); } };
+    for (const id of ["loadbutton", "openbutton"]) pressedByKey($(id));
   }
 
   tell(text, bad = false) {
@@ -56,7 +65,9 @@ export class BenchView {
     if (!good) return this.tell(`${name} is not loaded: '${$("loadat").value}' is no address.`, true);
     const answer = this.bench.load(bytes, at);
     this.bench.changed();
-    this.tell(answer ? `${name}: install is ${inWords(answer)}` : `${name}: ${count(bytes.length)} bytes are in memory from ${adr(at)} on${bytes.length > this.bench.length ? ", which is shorter: the last ones stand" : ""}.`, answer !== 0);
+    if (answer) return this.tell(`${name}: install is ${inWords(answer)}`, true);
+    const shorter = bytes.length > this.bench.length ? ", which is shorter: the last ones stand" : "";
+    this.tell(`${name}: ${count(bytes.length)} bytes are in memory from ${adr(at)} on${shorter}.`);
   }
 
   // ---- the display list
@@ -88,6 +99,7 @@ export class BenchView {
     if (answer) return this.tell(`install is ${inWords(answer)} XDL_ADR stays.`, true);
     const from = $("from").value, asks = $("on").checked ? "" : " It is not switched on.";
     if (!bytes) return this.tell(from === "plan" ? "The plan is refused: memory keeps the last list." : "Memory keeps the last list.", true);
-    this.tell(from === "memory" ? `XDL_ADR is ${adr(at)}; nothing is installed.${asks}` : `${count(bytes.length)} bytes are installed at ${adr(at)}, and XDL_ADR is that address.${asks}`);
+    if (from === "memory") return this.tell(`XDL_ADR is ${adr(at)}; nothing is installed.${asks}`);
+    this.tell(`${count(bytes.length)} bytes are installed at ${adr(at)}, and XDL_ADR is that address.${asks}`);
   }
 }

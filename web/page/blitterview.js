@@ -18,15 +18,24 @@ const ADDRESSES = [H.BOARD_XDL_ADR, H.BOARD_BL_ADR, H.BOARD_LIST], BYTES = [H.BO
 // A block for the example memory: a part of its SR picture, copied within it.
 const FIRST = block({ "source address": 0x1000 + 200, "destination address": 0x1000 + 20 * 320 + 40, width: 80, height: 50 });
 
+// A word of the board, as it is written.
+function shown(place, value) {
+  if (place === H.BOARD_FLAGS) return FLAGS[value];
+  if (ADDRESSES.includes(place)) return adr(value);
+  return BYTES.includes(place) ? "$" + hex(value) : String(value);
+}
+
 export class BlitterView {
   constructor(bench, picture, palettes, benchView, plan) {
-    Object.assign(this, { bench, picture, palettes, benchView, plan, blocks: [FIRST.slice()], chosen: 0, ticks: 0, accesses: 0, before: null, playing: 0, said: [] });
+    Object.assign(this, { bench, picture, palettes, benchView, plan });
+    Object.assign(this, { blocks: [FIRST.slice()], chosen: 0, ticks: 0, accesses: 0, before: null, playing: 0, said: [] });
     this.root = $("blitter");
     $("scenes").append(...options([["", "none: memory as it is"], ...SCENES.map(({ name }) => [name, name])]));
     $("scenes").onchange = () => this.scene();
     for (const button of this.root.querySelectorAll("[data-do]")) button.onclick = () => this.act(button.dataset.do);
     $("speed").oninput = () => this.speed();
-    $("register").append(...options(ENUMS.register.filter(([name]) => name.startsWith("WRITE_")).map(([name, offset]) => [offset, `$${hex(offset)} ${name.slice(6)}`])));
+    const written = ENUMS.register.filter(([name]) => name.startsWith("WRITE_"));
+    $("register").append(...options(written.map(([name, offset]) => [offset, `$${hex(offset)} ${name.slice(6)}`])));
     $("registers").onsubmit = (event) => { event.preventDefault(); this.register(); };
     for (const id of ["viewfrom", "viewrow"]) $(id).oninput = () => this.draw();
     $("vram").onmousemove = (event) => this.pointed(event);
@@ -172,17 +181,33 @@ export class BlitterView {
   // ---- the form
   form() {
     const bytes = this.blocks[this.chosen];
-    const choice = this.blocks.map((_, n) => el("button", { aria: { pressed: n === this.chosen }, onclick: () => { this.chosen = n; this.form(); } }, `Block ${n + 1}`));
-    const more = el("button", { title: "Another block behind the last", aria: { label: "Add a block" }, onclick: () => this.add() }, "+"), less = el("button", { title: "Take this block away", aria: { label: "Remove the block" }, onclick: () => this.remove() }, "−");
+    const choice = this.blocks.map((_, n) => {
+      const aria = { pressed: n === this.chosen };
+      return el("button", { aria, onclick: () => this.choose(n) }, `Block ${n + 1}`);
+    });
+    const more = el("button", { title: "Another block behind the last", aria: { label: "Add a block" }, onclick: () => this.add() }, "+");
+    const less = el("button", { title: "Take this block away", aria: { label: "Remove the block" }, onclick: () => this.remove() }, "−");
     const copied = el("button", { onclick: () => copy(assembler(this.blocks), `${this.blocks.length} blocks as assembler lines`) }, "Copy as assembler");
-    const groups = Object.entries(GROUPS).map(([name, fields]) => el("fieldset", { className: name }, el("legend", {}, name), ...Object.entries(fields).map(([field, of]) => this.field(bytes, field.replace(name + " ", ""), of))));
+    const groups = Object.entries(GROUPS).map(([name, fields]) => this.group(bytes, name, fields));
     this.raw = el("p", { className: "bytes" });
     $("blocks").replaceChildren(el("div", { className: "choices" }, ...choice, more, less, copied), ...groups, this.raw);
     this.edited();
   }
 
+  choose(n) {
+    this.chosen = n;
+    this.form();
+  }
+
+  // The fields of a group, named without the group's own name.
+  group(bytes, name, fields) {
+    const labels = Object.entries(fields).map(([field, of]) => this.field(bytes, field.replace(name + " ", ""), of));
+    return el("fieldset", { className: name }, el("legend", {}, name), ...labels);
+  }
+
   field(bytes, name, field) {
-    const title = `${field.least} to ${field.most}`, input = field.names ? el("select", { title }, ...options(field.names.map((says, value) => [value, says]))) : el("input", { title, spellcheck: false });
+    const title = `${field.least} to ${field.most}`, choices = field.names?.map((says, value) => [value, says]);
+    const input = choices ? el("select", { title }, ...options(choices)) : el("input", { title, spellcheck: false });
     input.value = field.names ? field.get(bytes) : (field.show ?? String)(field.get(bytes));
     input.oninput = () => {
       const value = number(input.value), fits = Number.isInteger(value) && value >= field.least && value <= field.most;
@@ -214,7 +239,8 @@ export class BlitterView {
 
   // ---- the picture of memory
   view() {
-    const from = number($("viewfrom").value), row = number($("viewrow").value), good = Number.isInteger(row) && row >= 16 && row <= 1024, start = Number.isInteger(from) && from >= 0 && from < H.MEMORY_512K;
+    const from = number($("viewfrom").value), start = Number.isInteger(from) && from >= 0 && from < H.MEMORY_512K;
+    const row = number($("viewrow").value), good = Number.isInteger(row) && row >= 16 && row <= 1024;
     $("viewrow").setAttribute("aria-invalid", String(!good));
     $("viewfrom").setAttribute("aria-invalid", String(!start));
     const wide = good ? row : 320, room = this.root.querySelector(".stack").parentElement.clientWidth, zoom = Math.max(1, Math.min(3, Math.floor(room / wide)));
@@ -235,7 +261,8 @@ export class BlitterView {
 
   // Where source and destination lie: of the block that is worked on, else of the one in the form.
   marks(from, row, rows, zoom) {
-    const canvas = Object.assign($("marks"), { width: row * zoom, height: rows * zoom }), context = canvas.getContext("2d"), word = this.bench.word, busy = word[H.BOARD_FLAGS] === H.BUSY;
+    const canvas = Object.assign($("marks"), { width: row * zoom, height: rows * zoom }), context = canvas.getContext("2d");
+    const word = this.bench.word, busy = word[H.BOARD_FLAGS] === H.BUSY;
     const at = places(busy ? word.slice(H.BOARD_BLOCK, H.BOARD_BLOCK + H.BLOCK_BYTES) : this.blocks[this.chosen]), all = H.MEMORY_512K;
     const cell = (address) => { const i = (((address - from) % all) + all) % all; return [(i % row) * zoom, Math.floor(i / row) * zoom]; };
     const outline = (place, colour) => {
@@ -267,10 +294,15 @@ export class BlitterView {
   // ---- the board's words, and what its registers read
   state() {
     const word = this.bench.word, memory = this.bench.memory.view, { before } = this;
-    const shown = (place) => (place === H.BOARD_FLAGS ? FLAGS[word[place]] : ADDRESSES.includes(place) ? adr(word[place]) : BYTES.includes(place) ? "$" + hex(word[place]) : String(word[place]));
     let differ = 0;
     if (before?.length === memory.length) for (let i = 0; i < memory.length; i++) if (before[i] !== memory[i]) differ++;
-    const cells = [...ENUMS.board_word.filter(([name]) => !/_P\d$/.test(name)).map(([name, place]) => [name.replace("BOARD_", ""), shown(place)]), ["ticks", count(this.ticks)], ["accesses", count(this.accesses)], ["bytes changed", count(differ)]];
+    const told = ENUMS.board_word.filter(([name]) => !/_P\d$/.test(name));
+    const cells = [
+      ...told.map(([name, place]) => [name.replace("BOARD_", ""), shown(place, word[place])]),
+      ["ticks", count(this.ticks)],
+      ["accesses", count(this.accesses)],
+      ["bytes changed", count(differ)],
+    ];
     $("state").replaceChildren(...cells.map(([name, value]) => el("div", {}, name, el("b", {}, value))));
     const reads = ENUMS.register.filter(([name]) => name.startsWith("READ_"));
     $("reads").textContent = "reads: " + reads.map(([name, offset]) => `${name.slice(5)} $${hex(this.bench.read(offset))}`).join(", ");

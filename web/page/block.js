@@ -12,18 +12,47 @@ const address = (at) => ({ least: 0, most: H.MEMORY_512K - 1, show: adr, get: (b
 const stepY = (at) => ({ least: -4096, most: 4095, get: (b) => signed(little(b, at, 2) % 8192, 13), set: (b, v) => put(b, at, 2, (v + 8192) % 8192) });
 const stepX = (at) => ({ least: -128, most: 127, get: (b) => signed(b[at], 8), set: (b, v) => put(b, at, 1, (v + 256) % 256) });
 const byte = (at) => ({ least: 0, most: 255, show: (v) => "$" + hex(v), get: (b) => b[at], set: (b, v) => put(b, at, 1, v) });
-const bits = (at, shift, many, plus, names) => ({ least: plus, most: 2 ** many - 1 + plus, names, get: (b) => ((b[at] >> shift) % 2 ** many) + plus, set: (b, v) => put(b, at, 1, (b[at] & ~((2 ** many - 1) << shift)) | ((v - plus) << shift)) });
+const bits = (at, shift, many, plus, names) => {
+  const ones = 2 ** many - 1;
+  return {
+    least: plus,
+    most: ones + plus,
+    names,
+    get: (b) => ((b[at] >> shift) & ones) + plus,
+    set: (b, v) => put(b, at, 1, (b[at] & ~(ones << shift)) | ((v - plus) << shift)),
+  };
+};
 const width = { least: 1, most: 512, get: (b) => (little(b, H.BLOCK_WIDTH0, 2) % 512) + 1, set: (b, v) => put(b, H.BLOCK_WIDTH0, 2, v - 1) };
 const height = { least: 1, most: 256, get: (b) => b[H.BLOCK_HEIGHT] + 1, set: (b, v) => put(b, H.BLOCK_HEIGHT, 1, v - 1) };
 
+const MODES = WRITES.map((writes, mode) => `${mode}: ${writes.replace(" (ours)", "")}`);
+
 // In groups, as the form shows them.
 export const GROUPS = {
-  source: { "source address": address(H.BLOCK_SOURCE_ADR0), "source step y": stepY(H.BLOCK_SOURCE_STEP_Y0), "source step x": stepX(H.BLOCK_SOURCE_STEP_X) },
-  destination: { "destination address": address(H.BLOCK_DEST_ADR0), "destination step y": stepY(H.BLOCK_DEST_STEP_Y0), "destination step x": stepX(H.BLOCK_DEST_STEP_X) },
-  size: { width, height, "zoom x": bits(H.BLOCK_ZOOM, 0, 3, 1), "zoom y": bits(H.BLOCK_ZOOM, 4, 3, 1) },
+  source: {
+    "source address": address(H.BLOCK_SOURCE_ADR0),
+    "source step y": stepY(H.BLOCK_SOURCE_STEP_Y0),
+    "source step x": stepX(H.BLOCK_SOURCE_STEP_X),
+  },
+  destination: {
+    "destination address": address(H.BLOCK_DEST_ADR0),
+    "destination step y": stepY(H.BLOCK_DEST_STEP_Y0),
+    "destination step x": stepX(H.BLOCK_DEST_STEP_X),
+  },
+  size: {
+    width,
+    height,
+    "zoom x": bits(H.BLOCK_ZOOM, 0, 3, 1),
+    "zoom y": bits(H.BLOCK_ZOOM, 4, 3, 1),
+  },
   "what is done": {
-    mode: bits(H.BLOCK_CONTROL, 0, 3, 0, WRITES.map((writes, mode) => `${mode}: ${writes.replace(" (ours)", "")}`)), "AND mask": byte(H.BLOCK_AND_MASK), "XOR mask": byte(H.BLOCK_XOR_MASK), "collision mask": byte(H.BLOCK_COLLISION_MASK),
-    pattern: bits(H.BLOCK_PATTERN, 7, 1, 0, ["not in use", "in use"]), "pattern width": bits(H.BLOCK_PATTERN, 0, 6, 1), NEXT: bits(H.BLOCK_CONTROL, 3, 1, 0, ["the last block", "another follows"]),
+    mode: bits(H.BLOCK_CONTROL, 0, 3, 0, MODES),
+    "AND mask": byte(H.BLOCK_AND_MASK),
+    "XOR mask": byte(H.BLOCK_XOR_MASK),
+    "collision mask": byte(H.BLOCK_COLLISION_MASK),
+    pattern: bits(H.BLOCK_PATTERN, 7, 1, 0, ["not in use", "in use"]),
+    "pattern width": bits(H.BLOCK_PATTERN, 0, 6, 1),
+    NEXT: bits(H.BLOCK_CONTROL, 3, 1, 0, ["the last block", "another follows"]),
   },
 };
 const ALL = Object.assign({}, ...Object.values(GROUPS));
@@ -40,9 +69,12 @@ export const fieldOf = (bytes, name) => ALL[name].get(bytes);
 // Where the byte of a row and a column lies, not yet reduced to 19 bits (R22): for the marks in the picture of memory.
 export function places(bytes) {
   const of = (name) => fieldOf(bytes, name), across = of("pattern") ? of("pattern width") : of("width");
+  const sourceRow = (row) => Math.floor(row / of("zoom y")), sourceColumn = (column) => Math.floor(column / of("zoom x")) % across;
   return {
-    columns: of("width") * of("zoom x"), rows: of("height") * of("zoom y"), reads: of("AND mask") !== 0 && of("mode") !== 7,
-    source: (row, column) => of("source address") + Math.floor(row / of("zoom y")) * of("source step y") + (Math.floor(column / of("zoom x")) % across) * of("source step x"),
+    columns: of("width") * of("zoom x"),
+    rows: of("height") * of("zoom y"),
+    reads: of("AND mask") !== 0 && of("mode") !== 7,
+    source: (row, column) => of("source address") + sourceRow(row) * of("source step y") + sourceColumn(column) * of("source step x"),
     destination: (row, column) => of("destination address") + row * of("destination step y") + column * of("destination step x"),
   };
 }

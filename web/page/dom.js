@@ -23,7 +23,8 @@ export function number(text) {
   return sixteen ? parseInt(sixteen[1], 16) : /^-?\d+$/.test(typed) ? Number(typed) : NaN;
 }
 
-// Bytes as they are pasted: F4 0F, F40F, $F4,$0F, 0xF4 or lines of an assembler's dta, .byte or .db; what is behind a ; is a remark. A word that is none is named.
+// Bytes as they are pasted: F4 0F, F40F, $F4,$0F, 0xF4 or lines of an assembler's dta, .byte or .db; what is behind a ; is a remark.
+// A word that is none is named.
 export function pasted(text) {
   const bytes = [];
   for (const word of text.replace(/;.*$/gm, "").split(/[\s,]+/).filter((word) => word && !/^(\.?byte|\.?db|dta)$/i.test(word))) {

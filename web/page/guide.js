@@ -3,7 +3,11 @@ import { GUIDE } from "./facts.js";
 import { $, el } from "./dom.js";
 
 // Words between ** are strong, those between ` are code.
-const inline = (text) => text.split(/(\*\*[^*]+\*\*|`[^`]+`)/).filter(Boolean).map((part) => (part.startsWith("**") ? el("b", {}, part.slice(2, -2)) : part.startsWith("`") ? el("code", {}, part.slice(1, -1)) : part));
+function element(part) {
+  if (part.startsWith("**")) return el("b", {}, part.slice(2, -2));
+  return part.startsWith("`") ? el("code", {}, part.slice(1, -1)) : part;
+}
+const inline = (text) => text.split(/(\*\*[^*]+\*\*|`[^`]+`)/).filter(Boolean).map(element);
 
 export function guide() {
   const made = [];

@@ -20,6 +20,7 @@ function shown(place, value) {
   if (place === H.LINE_ADDRESS || place === H.LINE_MAP_ADDRESS) return adr(value);
   return place === H.LINE_FONT || place === H.LINE_PRIORITY ? "$" + hex(value) : String(value);
 }
+const span = (first, last) => (first === last ? adr(first) : `${adr(first)} to ${adr(last)}`);
 
 export class LinesView {
   constructor(bench, picture, plan) {
@@ -50,17 +51,27 @@ export class LinesView {
 
   table() {
     const heads = ["lines", "mode", "address", "step", "scrolls", "font", "map", "width", "palettes", "record"];
-    const span = (first, last) => (first === last ? adr(first) : `${adr(first)} to ${adr(last)}`);
-    const rows = this.bands().map(({ from, to, words: w, last }) => {
-      const off = w[H.LINE_MODE] === H.MODE_OFF;
-      const cells = [from === to ? from : `${from} to ${to}`, el("span", { className: `tag mode${w[H.LINE_MODE]}` }, MODES[w[H.LINE_MODE]]), off ? "" : span(w[H.LINE_ADDRESS], last[H.LINE_ADDRESS]), off ? "" : w[H.LINE_STEP],
-        `${w[H.LINE_HSCROLL]} ${w[H.LINE_VSCROLL]}`, "$" + hex(w[H.LINE_FONT]), w[H.LINE_MAP_ON] ? `${adr(w[H.LINE_MAP_ADDRESS])} ${w[H.LINE_FIELD_WIDTH]}×${w[H.LINE_FIELD_HEIGHT]}` : "off",
-        WIDTHS[w[H.LINE_WIDTH]], `${w[H.LINE_OVERLAY_PALETTE]} ${w[H.LINE_PLAYFIELD_PALETTE]}`, shown(H.LINE_RECORD, w[H.LINE_RECORD])];
-      return el("tr", { className: `mode${w[H.LINE_MODE]}`, onclick: () => this.choose(from), data: { from, to } }, ...cells.map((cell) => el("td", {}, cell instanceof Node ? cell : String(cell))));
-    });
+    const rows = this.bands().map((band) => this.row(band));
     const answer = this.bench.frameAnswer();
     $("records").replaceChildren(el("thead", {}, el("tr", {}, ...heads.map((head) => el("th", { scope: "col" }, head)))), el("tbody", {}, ...rows));
     if (answer) $("records").append(el("caption", {}, `The frame is ${inWords(answer)}`));
+  }
+
+  row({ from, to, words: w, last }) {
+    const mode = `mode${w[H.LINE_MODE]}`, off = w[H.LINE_MODE] === H.MODE_OFF;
+    const cells = [
+      from === to ? from : `${from} to ${to}`,
+      el("span", { className: `tag ${mode}` }, MODES[w[H.LINE_MODE]]),
+      off ? "" : span(w[H.LINE_ADDRESS], last[H.LINE_ADDRESS]),
+      off ? "" : w[H.LINE_STEP],
+      `${w[H.LINE_HSCROLL]} ${w[H.LINE_VSCROLL]}`,
+      "$" + hex(w[H.LINE_FONT]),
+      w[H.LINE_MAP_ON] ? `${adr(w[H.LINE_MAP_ADDRESS])} ${w[H.LINE_FIELD_WIDTH]}×${w[H.LINE_FIELD_HEIGHT]}` : "off",
+      WIDTHS[w[H.LINE_WIDTH]],
+      `${w[H.LINE_OVERLAY_PALETTE]} ${w[H.LINE_PLAYFIELD_PALETTE]}`,
+      shown(H.LINE_RECORD, w[H.LINE_RECORD]),
+    ].map((cell) => el("td", {}, cell instanceof Node ? cell : String(cell)));
+    return el("tr", { className: mode, onclick: () => this.choose(from), data: { from, to } }, ...cells);
   }
 
   // ---- one line
@@ -71,8 +82,13 @@ export class LinesView {
     const now = lines[this.line].words, before = lines[this.line - 1]?.words;
     $("lineno").textContent = this.line;
     $("strip").setAttribute("aria-valuenow", String(this.line));
-    $("settings").replaceChildren(...NAMES.flatMap((name, place) => [el("dt", {}, name), el("dd", { className: before && before[place] !== now[place] ? "new" : "" }, shown(place, now[place]))]));
-    for (const row of $("records").querySelectorAll("tbody tr")) row.classList.toggle("chosen", Number(row.dataset.from) <= this.line && this.line <= Number(row.dataset.to));
+    const changed = (place) => before && before[place] !== now[place];
+    const said = (place) => el("dd", { className: changed(place) ? "new" : "" }, shown(place, now[place]));
+    $("settings").replaceChildren(...NAMES.flatMap((name, place) => [el("dt", {}, name), said(place)]));
+    for (const row of $("records").querySelectorAll("tbody tr")) {
+      const { from, to } = row.dataset;
+      row.classList.toggle("chosen", Number(from) <= this.line && this.line <= Number(to));
+    }
     this.origin(now[H.LINE_RECORD], lines);
     this.strip(lines);
   }
@@ -80,10 +96,16 @@ export class LinesView {
   origin(record, lines) {
     const none = record === H.NO_RECORD, bytes = none ? [] : explainRecord((place) => this.bench.byte((record + place) % H.MEMORY_512K));
     const first = lines.findIndex(({ words }) => words[H.LINE_RECORD] === record);
-    $("recordsay").textContent = none ? "No record was read: the list is not switched on." : `The record at ${adr(record)}, read for line ${first}${first < this.line ? ` and in force ${this.line - first} lines later` : ""}.${this.item(record)}`;
+    $("recordsay").textContent = none ? "No record was read: the list is not switched on." : this.readFor(first, record);
     $("recordhex").hidden = none;
     $("recordhex").replaceChildren(el("div", {}, ...bytes.map(({ value, say }) => el("span", { title: say }, hex(value)))));
-    $("recordwords").replaceChildren(...bytes.filter(({ say }, i) => !/, byte [23] of/.test(say)).map(({ say }) => el("li", {}, say.replace(/, byte 1 of \d/, ""))));
+    const firsts = bytes.filter(({ say }) => !/, byte [23] of/.test(say)); // a field of several bytes is said once
+    $("recordwords").replaceChildren(...firsts.map(({ say }) => el("li", {}, say.replace(/, byte 1 of \d/, ""))));
+  }
+
+  readFor(first, record) {
+    const later = first < this.line ? ` and in force ${this.line - first} lines later` : "";
+    return `The record at ${adr(record)}, read for line ${first}${later}.${this.item(record)}`;
   }
 
   // Which item of the plan it is, where the list is the plan's: the records of a list stand one behind the other.

@@ -22,7 +22,12 @@ const ready = performance.now() - began;
 
 const bench = new Bench(desk), palettes = new Palettes(), picture = new FramePicture(bench, palettes);
 const plan = new PlanView(bench, picture), benchView = new BenchView(bench, plan);
-const views = { plan, lines: new LinesView(bench, picture, plan), picture: new PictureView(bench, picture, palettes, benchView), blitter: new BlitterView(bench, picture, palettes, benchView, plan) };
+const views = {
+  plan,
+  lines: new LinesView(bench, picture, plan),
+  picture: new PictureView(bench, picture, palettes, benchView),
+  blitter: new BlitterView(bench, picture, palettes, benchView, plan),
+};
 
 let shown = "plan";
 const redraw = () => views[shown].draw();
@@ -52,7 +57,7 @@ guide();
 benchView.fill(FIRST_MEMORY);
 plan.changed = () => benchView.lay();
 bench.watch(redraw);
-plan.example(FIRST_PLAN);
+plan.first(FIRST_PLAN);
 open("plan");
 say(`module of ${count(bytes.length)} bytes, started in ${ready.toFixed(0)} ms`);
 globalThis.deskPage = { desk, bench, names: H, views, benchView, palettes, open, ready, whole: performance.now() - began }; // for web/test

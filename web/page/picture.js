@@ -63,10 +63,10 @@ export class FramePicture {
   }
 
   row(points, y, pixels) {
-    const wide = pointsOf(pixels);
+    const wide = pointsOf(pixels), clear = (at) => this.board[((at % H.LINE_PIXELS >> 2) ^ (y >> 1)) & 1];
     let at = y * H.LINE_PIXELS + leftOf(pixels);
     for (const pixel of pixels)
-      for (let i = 0; i < wide; i++, at++) points[at] = pixel === H.TRANSPARENT ? this.board[((at % H.LINE_PIXELS >> 2) ^ (y >> 1)) & 1] : this.palettes.colour(pixel);
+      for (let i = 0; i < wide; i++, at++) points[at] = pixel === H.TRANSPARENT ? clear(at) : this.palettes.colour(pixel);
   }
 }
 

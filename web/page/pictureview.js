@@ -20,7 +20,9 @@ export class PictureView {
   // ---- the palettes
   choices() {
     $("palettes").replaceChildren(...this.palettes.all.map(({ way }, n) => {
-      const known = WAY_NAMES.includes(way), choice = el("select", { aria: { label: `palette ${n}` } }, ...options([...WAY_NAMES.map((name) => [name, name]), ...(known ? [] : [[way, way]]), ["file", "a file of 768 bytes"]]));
+      const ways = WAY_NAMES.includes(way) ? WAY_NAMES : [...WAY_NAMES, way]; // the other way is a file's name
+      const offered = [...ways.map((name) => [name, name]), ["file", "a file of 768 bytes"]];
+      const choice = el("select", { aria: { label: `palette ${n}` } }, ...options(offered));
       const file = el("input", { type: "file", hidden: true });
       choice.value = way;
       choice.onchange = () => (choice.value === "file" ? file.click() : this.chosen(() => this.palettes.choose(n, choice.value)));
@@ -31,7 +33,8 @@ export class PictureView {
   }
 
   bars(n) {
-    const canvas = el("canvas", { width: 256, height: 1, className: "bars", aria: { hidden: true } }), context = canvas.getContext("2d"), image = context.createImageData(256, 1);
+    const canvas = el("canvas", { width: 256, height: 1, className: "bars", aria: { hidden: true } });
+    const context = canvas.getContext("2d"), image = context.createImageData(256, 1);
     new Uint32Array(image.data.buffer).set(this.palettes.all[n].colours);
     context.putImageData(image, 0, 0);
     return canvas;
@@ -45,7 +48,8 @@ export class PictureView {
   }
 
   loaded(n, bytes, name) {
-    this.chosen(() => say(this.palettes.load(n, bytes, name) ? `palette ${n} is ${name}` : `${name} has ${bytes.length} bytes; a palette has 768: 256 times red, green, blue`));
+    const good = `palette ${n} is ${name}`, bad = `${name} has ${bytes.length} bytes; a palette has 768: 256 times red, green, blue`;
+    this.chosen(() => say(this.palettes.load(n, bytes, name) ? good : bad));
   }
 
   // ---- the picture, and the point in it
@@ -74,7 +78,8 @@ export class PictureView {
     this.at = { x: Math.max(0, Math.min(H.LINE_PIXELS - 1, x)), y: Math.max(0, Math.min(H.LINES - 1, y)) };
     const n = Math.floor(this.at.y), pixels = this.bench.lines()[n]?.pixels ?? [], i = Math.floor((Math.floor(this.at.x) - leftOf(pixels)) / pointsOf(pixels));
     const inside = i >= 0 && i < pixels.length;
-    $("point").textContent = `line ${n} · ${pixels.length ? `${pixels.length} pixels` : "no pixels: the overlay is off"}${inside ? ` · pixel ${i}: ${this.said(pixels[i])}` : ""}`;
+    const many = pixels.length ? `${pixels.length} pixels` : "no pixels: the overlay is off";
+    $("point").textContent = `line ${n} · ${many}${inside ? ` · pixel ${i}: ${this.said(pixels[i])}` : ""}`;
   }
   said(pixel) { return pixel === H.TRANSPARENT ? "transparent" : `palette ${pixel >> 8}, colour $${hex(pixel & 255)}`; }
 

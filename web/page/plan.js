@@ -73,7 +73,8 @@ export function explainRecord(at) {
     if (!((at(byte) >> bit) & 1)) continue;
     for (const { name, size } of parts) {
       const first = told.length, value = whole(at, first, size), bits = RECORD.bits[byte][bit];
-      for (let i = 0; i < size; i++) told.push({ name: inPlan[name] ?? name, value: at(first + i), say: `${bits}, ${name}: ${size > 1 ? inHex(value, size) : value}${part(size, i)}` });
+      const says = `${bits}, ${name}: ${size > 1 ? inHex(value, size) : value}`;
+      for (let i = 0; i < size; i++) told.push({ name: inPlan[name] ?? name, value: at(first + i), say: says + part(size, i) });
     }
   }
   return told;

@@ -8,8 +8,12 @@ import { show } from "./picture.js";
 import { $, adr, assembler, copy, count, el, hex, number, onFile, options, pasted, save, upDown } from "./dom.js";
 
 const MOST_BYTES = 16384; // more than any plan that the module takes
-const GROUPS = [["", ["lines"]], ["overlay", ["mode", "overlay address", "overlay step", "hscroll", "vscroll", "font"]],
-  ["attribute map", ["map", "map address", "map step", "map hscroll", "map vscroll", "field width", "field height"]], ["line", ["width", "palettes", "priority"]]];
+const GROUPS = [
+  ["", ["lines"]],
+  ["overlay", ["mode", "overlay address", "overlay step", "hscroll", "vscroll", "font"]],
+  ["attribute map", ["map", "map address", "map step", "map hscroll", "map vscroll", "field width", "field height"]],
+  ["line", ["width", "palettes", "priority"]],
+];
 const headOf = (name) => name.replace(/^(overlay|map) (?=.)/, "").replace("field ", "f. ");
 const shown = (field, value) => (field.size === 3 ? adr(value) : field.name === "priority" || field.name === "font" ? "$" + hex(value) : String(value));
 const KEPT = 100; // steps that can be undone
@@ -62,7 +66,7 @@ export class PlanView {
     const { items, chosen } = this, item = items[chosen], after = items.length ? chosen + 1 : 0;
     if (what === "saveplan") return save("screen.plan", bytesOfPlan(items));
     if (what === "savelist") return this.list && save("screen.xdl", this.list);
-    if (what === "assembler") return this.list && copy(assembler(this.records().map((row) => row.map(({ value }) => value))), `${this.list.length} bytes as assembler lines`);
+    if (what === "assembler") return this.list && this.copyList();
     if (what === "undo") return this.undo();
     this.keep();
     if (what === "full") this.insert(after, newItem(1, null, this.bench.beginning()));
@@ -72,6 +76,11 @@ export class PlanView {
     if (what === "down" && chosen + 1 < items.length) this.move(chosen + 1);
     if (what === "remove") { items.splice(chosen, 1); this.chosen = Math.max(0, Math.min(chosen, items.length - 1)); }
     this.anew();
+  }
+
+  copyList() {
+    const rows = this.records().map((row) => row.map(({ value }) => value));
+    return copy(assembler(rows), `${this.list.length} bytes as assembler lines`);
   }
 
   insert(at, item) { this.items.splice(at, 0, item); this.chosen = at; }
@@ -88,6 +97,12 @@ export class PlanView {
     while (this.undone.length && String(this.undone.at(-1)) === now) this.undone.pop();
     if (this.undone.length) this.take(itemsOfPlan(this.undone.pop()));
   }
+  // The plan that the page begins with: there is nothing before it.
+  first(name) {
+    this.example(name);
+    this.undone = [];
+    $("undo").disabled = true;
+  }
 
   anew() {
     this.typed.clear();
@@ -98,7 +113,8 @@ export class PlanView {
   // ---- the table
   table() {
     const names = GROUPS.flatMap(([, names]) => names);
-    const groups = el("tr", {}, el("th", { colSpan: 2 }), ...GROUPS.map(([says, of]) => el("th", { colSpan: of.length, className: says && "group", scope: "colgroup" }, says)));
+    const above = GROUPS.map(([says, of]) => el("th", { colSpan: of.length, className: says && "group", scope: "colgroup" }, says));
+    const groups = el("tr", {}, el("th", { colSpan: 2 }), ...above);
     const heads = el("tr", {}, el("th", {}, "item"), el("th", {}, "from"), ...names.map((name) => el("th", { title: name, scope: "col" }, headOf(name))));
     const rows = this.items.map((item, n) => this.row(item, n, names));
     $("items").replaceChildren(el("thead", {}, groups, heads), el("tbody", {}, ...rows));
@@ -110,9 +126,11 @@ export class PlanView {
       const field = FIELDS[item.kind].find((each) => each.name === name);
       return field ? this.cell(item, n, field) : el("td", { className: "none", title: "runs on from above" }, "·");
     });
-    const made = el("tr", { className: `item ${this.colour(item)}` }, el("td", { className: "number", title: item.kind === 1 ? "full band" : "running on" }, item.kind === 1 ? String(n) : `${n} ↳`), el("td", { className: "number from" }), ...cells);
+    const full = item.kind === 1;
+    const head = el("td", { className: "number", title: full ? "full band" : "running on" }, full ? String(n) : `${n} ↳`);
+    const made = el("tr", { className: `item ${this.colour(item)}` }, head, el("td", { className: "number from" }), ...cells);
     made.onmousedown = () => this.choose(n);
-    made.addEventListener("focusin", (event) => { this.choose(n); $("byte").textContent = event.target.ariaLabel ?? ""; });
+    made.addEventListener("focusin", (event) => { this.choose(n); $("byte").textContent = event.target.getAttribute("aria-label") ?? ""; });
     return made;
   }
 
@@ -125,14 +143,21 @@ export class PlanView {
 
   cell(item, n, field) {
     const title = `${field.name}${field.say ? `: ${field.say}` : ""}, ${rangeOf(field)}`, aria = { label: `item ${n}, ${title}` };
-    const input = field.names ? this.select(field, item[field.name], title, aria) : el("input", { title, aria, spellcheck: false, className: ["", "", "two", "three"][field.size], value: shown(field, item[field.name]) });
+    const value = item[field.name];
+    const input = field.names ? this.select(field, value, title, aria) : this.input(field, value, title, aria);
     input.oninput = () => this.edit(item, n, field, input);
     input.onkeydown = (event) => this.step(event, n, field);
     return el("td", { data: { at: `${n}:${field.name}` } }, input);
   }
 
+  input(field, value, title, aria) {
+    const className = ["", "", "two", "three"][field.size];
+    return el("input", { title, aria, spellcheck: false, className, value: shown(field, value) });
+  }
+
   select(field, value, title, aria) {
-    const known = Object.entries(field.names), input = el("select", { title, aria }, ...options(field.names[value] ? known : [...known, [value, String(value)]]));
+    const known = Object.entries(field.names), all = field.names[value] ? known : [...known, [value, String(value)]];
+    const input = el("select", { title, aria }, ...options(all));
     input.value = value;
     return input;
   }
@@ -143,7 +168,10 @@ export class PlanView {
     if (fits(field, value)) {
       item[field.name] = value;
       this.typed.delete(key);
-    } else this.typed.set(key, `item ${n}, ${field.name}: '${input.value}' is no number of ${field.size === 1 ? "one byte" : `${field.size} bytes`}. The last one that was counts.`);
+    } else {
+      const size = field.size === 1 ? "one byte" : `${field.size} bytes`;
+      this.typed.set(key, `item ${n}, ${field.name}: '${input.value}' is no number of ${size}. The last one that was counts.`);
+    }
     if (field.name === "mode") input.closest("tr").className = `item ${this.colour(item)} chosen`;
     this.judge();
   }
@@ -181,11 +209,14 @@ export class PlanView {
     for (const cell of this.root.querySelectorAll("[data-at]")) cell.firstChild.setAttribute("aria-invalid", String(this.typed.has(cell.dataset.at)));
     if (typed) return this.put(true, el("b", {}, "not taken "), typed);
     if (answer) return this.refused(answer, "", this.wrong(answer));
-    this.put(false, el("b", {}, `XDL ${this.list.length} `), `${lines} of ${H.LINES} lines${lines < H.LINES ? "; below them the overlay and the map are off" : ""}.`);
+    const below = lines < H.LINES ? "; below them the overlay and the map are off" : "";
+    this.put(false, el("b", {}, `XDL ${this.list.length} `), `${lines} of ${H.LINES} lines${below}.`);
   }
   refused(answer, before, wrong = []) {
     for (const field of wrong) this.at(itemOf(answer), field.name).firstChild.setAttribute("aria-invalid", "true");
-    this.put(true, before, ...told(answer, ...wrong.map((field) => ` Here: ${field.name} is ${count(this.items[itemOf(answer)][field.name])}, its range is ${rangeOf(field)}.`)));
+    const value = (field) => count(this.items[itemOf(answer)][field.name]);
+    const here = wrong.map((field) => ` Here: ${field.name} is ${value(field)}, its range is ${rangeOf(field)}.`);
+    this.put(true, before, ...told(answer, ...here));
   }
   // The fields of an item that was refused 9 which are out of the ranges on the sheet.
   wrong(answer) {
@@ -221,7 +252,8 @@ export class PlanView {
   walk(box) {
     box.onkeydown = (event) => {
       const all = [...box.querySelectorAll("span")], now = all.findIndex((span) => span.classList.contains("at"));
-      const by = { ArrowRight: 1, ArrowLeft: -1, Home: -all.length, End: all.length }[event.key] ?? upDown(event.key, 0, 0) * (all[now]?.parentElement.children.length ?? 1);
+      const row = all[now]?.parentElement.children.length ?? 1;
+      const by = { ArrowRight: 1, ArrowLeft: -1, Home: -all.length, End: all.length }[event.key] ?? upDown(event.key, 0, 0) * row;
       if (!by || !all.length) return;
       event.preventDefault();
       const to = all[now < 0 ? 0 : Math.max(0, Math.min(all.length - 1, now + by))];

@@ -11,6 +11,6 @@ export const inWords = (answer) => `${inShort(answer)}: ${plain(SHEET[numberOf(a
 
 // The same as elements: as planxdl prints it, what was done, what to do, and more that the page has to say.
 export function told(answer, ...more) {
-  const row = SHEET[numberOf(answer)];
-  return [el("b", {}, `refused ${numberOf(answer)} item ${itemOf(answer)}`), ` (${row.name}) ${plain(row.did)} `, el("span", { className: "dim" }, plain(row.todo)), ...more];
+  const row = SHEET[numberOf(answer)], refused = el("b", {}, `refused ${numberOf(answer)} item ${itemOf(answer)}`);
+  return [refused, ` (${row.name}) ${plain(row.did)} `, el("span", { className: "dim" }, plain(row.todo)), ...more];
 }
