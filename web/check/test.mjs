@@ -48,6 +48,21 @@ function listOf(name) {
   return at.match(/```\nXDL \d+\n([0-9A-F \n]*)```/)[1].trim().split("\n");
 }
 
+// A refusal in the words of docs/HELP.md.
+function inSheet(number, item) {
+  const [, , name, , did, todo] = text("docs/HELP.md").match(new RegExp(`^\\| ${number} \\|.*$`, "m"))[0].split("|").map((cell) => cell.trim().replace(/`/g, ""));
+  return `refused ${number} item ${item} (${name}) ${did} ${todo}`;
+}
+
+// The points of a canvas of the page, as red, green and blue in hex.
+const points = (id, places) => b.run(`(() => {
+  const canvas = document.getElementById("${id}"), context = canvas.getContext("2d");
+  const hex = ([red, green, blue, there]) => there ? [red, green, blue].map((part) => part.toString(16).padStart(2, "0")).join("") : "nothing";
+  return ${quoted(places)}.map(([x, y]) => hex(context.getImageData(x, y, 1, 1).data));
+})()`);
+// A colour as planpic shows it, in the same form.
+const inPalette = (colour) => [(colour >> 5) * 255 / 7, ((colour >> 2) & 7) * 255 / 7, (colour & 3) * 85].map((part) => Math.floor(part).toString(16).padStart(2, "0")).join("");
+
 async function plan() {
   is("nothing to undo yet", await b.run(`document.getElementById("undo").disabled`), true);
   for (const name of readdirSync(example("")).filter((each) => each.endsWith(".plan")).map((each) => each.slice(0, -5))) {
@@ -57,18 +72,27 @@ async function plan() {
   }
   await set("#examples", "scrolled_band");
   await set(cell(1, "hscroll"), "8");
-  await begins("hscroll 8", "verdict", "refused 9 item 1 (field) A field of the item is out of its range.");
-  is("the field is named", (await said("verdict")).includes("hscroll is 8, its range is 0 to 7"), true);
+  is("hscroll 8", await said("verdict"), `${inSheet(9, 1)} Here: hscroll is 8, its range is 0 to 7.`);
   is("the item is marked", await each("#items tbody tr", (row) => row.classList.contains("faulty")), [false, true, false]);
   is("the field is marked", await each("#items [aria-invalid=true]", (input) => input.closest("td").dataset.at), ["1:hscroll"]);
-  await begins("memory keeps its list", "benchsay", "The plan is refused");
+  is("memory keeps its list", await said("benchsay"), "The plan is refused: memory and XDL_ADR stay.");
+  is("the frame is not the plan's", [await said("planpicturesay"), await b.run(`document.getElementById("planpicture").className`)], ["The frame is of the last list that was installed.", "frame small stale"]);
+  await set("#at", "$20000");
+  is("XDL_ADR stays", await board("XDL_ADR"), 0x7eb60);
+  await set("#at", "$7EB60");
+  await click("[data-do=savelist]");
+  is("no list to save", await said("status"), "there is no list: the plan is refused");
+  await set(cell(1, "vscroll"), "zz");
+  is("a refusal, and a field that is no number", await said("verdict"), `not taken item 1, vscroll: 'zz' is no number of one byte. The last one that was counts. ${inSheet(9, 1)} Here: hscroll is 8, its range is 0 to 7.`);
+  is("both are marked", await each("#items [aria-invalid=true]", (input) => input.closest("td").dataset.at), ["1:hscroll", "1:vscroll"]);
+  await set(cell(1, "vscroll"), "0");
   if (shots) await b.shot(join(room, "refused.png"));
   await set(cell(1, "hscroll"), "$100");
   await begins("no byte", "verdict", "not taken item 1, hscroll: '$100' is no number of one byte");
   await set(cell(1, "hscroll"), "7h");
   await begins("7h", "verdict", "XDL 38 240 of 240 lines.");
   await set(cell(2, "lines"), "81");
-  await begins("241 lines", "verdict", "refused 11 item 2 (lines)");
+  is("241 lines", await said("verdict"), inSheet(11, 2));
   await click("[data-do=undo]");
   await begins("undone", "verdict", "XDL 38 240 of 240 lines.");
   await focus(cell(0, "lines"));
@@ -81,10 +105,10 @@ async function plan() {
   await set(cell(0, "lines"), "80");
   await b.run("deskPage.views.plan.choose(0)");
   await click("[data-do=remove]");
-  await begins("a running-on item first", "verdict", "refused 10 item 0 (first)");
+  is("a running-on item first", await said("verdict"), inSheet(10, 0));
   await click("[data-do=remove]");
   await click("[data-do=remove]");
-  await begins("no item", "verdict", "refused 6 item 0 (no band) The plan has no bytes.");
+  is("no item", await said("verdict"), inSheet(6, 0));
   await click("[data-do=full]");
   is("a new band is as a line before any record", await rows("listhex"), ["F4 8F 07 00 00 00 00 00 00 00 00 00 00 00 00 00 00 00 07 07 11 FF"]);
   await click("[data-do=running]");
@@ -94,6 +118,34 @@ async function plan() {
   for (let i = 0; i < 3; i++) await b.key("ArrowRight");
   is("the third byte", await said("byte"), "item 0 · $07 = 7 · RPTL, repeat: 7");
   is("its field is marked", await each("#items td.hit", (td) => td.dataset.at), ["0:lines"]);
+}
+
+// Every byte of mapped_screen, its plan and its list, said in words: by R34, R41 and the example's own page.
+const PLAN_BYTES = [
+  "length of the body: 23, byte 1 of 2", "length of the body: 23, byte 2 of 2", "kind 1: a full band, byte 1 of 2", "kind 1: a full band, byte 2 of 2", "lines: 240", "mode: HR",
+  ...[1, 2, 3].map((n) => `overlay address: 131072, $020000, byte ${n} of 3`), "overlay step: 320, $0140, byte 1 of 2", "overlay step: 320, $0140, byte 2 of 2", "hscroll: 0", "vscroll: 0", "font: 0", "map: on",
+  ...[1, 2, 3].map((n) => `map address: 32768, $008000, byte ${n} of 3`), "map step: 160, $00A0, byte 1 of 2", "map step: 160, $00A0, byte 2 of 2", "map hscroll: 0", "map vscroll: 0", "field width: 8", "field height: 8",
+  "width: normal", "palettes: 1", "priority: 255",
+];
+const LIST_BYTES = [
+  "control byte 1: GMON MAPON RPTL OVADR OVSCRL", "control byte 2: CHBASE MAPADR MAPPAR OVATT HR END", "RPTL, repeat: 239", ...[1, 2, 3].map((n) => `OVADR, overlay address: $020000, byte ${n} of 3`),
+  "OVADR, overlay step: $0140, byte 1 of 2", "OVADR, overlay step: $0140, byte 2 of 2", "OVSCRL, hscroll: 0", "OVSCRL, vscroll: 0", "CHBASE, font: 0", ...[1, 2, 3].map((n) => `MAPADR, map address: $008000, byte ${n} of 3`),
+  "MAPADR, map step: $00A0, byte 1 of 2", "MAPADR, map step: $00A0, byte 2 of 2", "MAPPAR, map hscroll: 0", "MAPPAR, map vscroll: 0", "MAPPAR, field width - 1: 7", "MAPPAR, field height - 1: 7",
+  "OVATT, width and palettes: 17 (width 1, overlay palette 1, playfield palette 0)", "OVATT, priority: 255",
+];
+async function bytes() {
+  await set("#examples", "mapped_screen");
+  for (const [id, want] of [["planhex", PLAN_BYTES], ["listhex", LIST_BYTES]]) {
+    const got = [];
+    await focus(`#${id}`);
+    await b.key("Home");
+    for (let i = 0; i < want.length; i++) { got.push((await said("byte")).split(" · ")[2]); await b.key("ArrowRight"); }
+    is(`the bytes of ${id}`, got, want);
+  }
+  await b.key("Home");
+  is("a control byte is of mode and map", (await each("#items td.hit", (td) => td.dataset.at)).sort(), ["0:map", "0:mode"]);
+  const palettes = () => b.run(`(() => { const view = deskPage.views.plan, span = document.querySelectorAll("#planhex span")[25]; view.point(span); return [...document.querySelectorAll("#listhex span")].findIndex((other) => other.classList.contains("hit")); })()`);
+  is("palettes are in OVATT's first byte", await palettes(), 20);
 }
 
 async function files() {
@@ -124,6 +176,9 @@ async function files() {
   await begins("a plan with two faults", "verdict", "two.plan is not opened: it is no row of items. refused 9 item 0 (field)");
   await click("[data-do=undo]");
   is("undone to the plan before", await rows("listhex"), listOf("picture_status"));
+  writeFileSync(join(room, "long.plan"), Buffer.concat(Array.from({ length: 400 }, () => readFileSync(example("mapped_screen.plan")))));
+  await b.choose("open", join(room, "long.plan"));
+  await begins("a long plan", "verdict", "long.plan is not opened: it has 10,800 bytes, and no plan has more than 8,192. refused 11 item 1 (lines)");
 }
 
 // crates/planlines/stdout: what each line of the examples shows with the list at 7FFF8h, worked out by a second program.
@@ -149,6 +204,15 @@ function settingsOf([mode, address, step, hs, vs, font, counter, map, mapAddress
   return [...overlay, ...attributes, +width, +op, +pp, sixteen(priority), sixteen(record)];
 }
 
+// The same as the page shows it: name and value by turns.
+const NAMES = ["mode", "address", "step", "hscroll", "vscroll", "font", "text counter", "map on", "map address", "map step", "map hscroll", "map vscroll"];
+NAMES.push("field width", "field height", "field counter", "width", "overlay palette", "playfield palette", "priority", "record");
+function seenOf([mode, address, step, hs, vs, font, counter, map, mapAddress, mapStep, mhs, mvs, fw, fh, fc, width, op, pp, priority, record]) {
+  const name = mode.length === 2 ? mode.toUpperCase() : mode, wide = ["narrow", "normal", "wide"][width];
+  const overlay = [name, `$${address}`, step, hs, vs, `$${font}`, counter], attributes = [map, `$${mapAddress}`, mapStep, mhs, mvs, fw, fh, fc];
+  return [...overlay, ...attributes, wide, op, pp, `$${priority}`, `$${record}`].flatMap((value, i) => [NAMES[i], value]);
+}
+
 async function lines() {
   await part("lines");
   await set("#at", "$7FFF8");
@@ -163,9 +227,20 @@ async function lines() {
       await b.run(`deskPage.views.lines.choose(${n})`);
       const origin = (await said("recordsay")).replace(/, read.*\. It/, ": It");
       is(`${name}, line ${n}: its record`, origin, `The record at $${record}: It is item ${item} of the plan.`);
+      is(`${name}, line ${n}, as it is seen`, await each("#settings dt, #settings dd", (one) => one.textContent), seenOf(told));
       seen++;
     }
   }
+  is("the words of a record", await each("#recordwords li", (one) => one.textContent), LIST_BYTES.filter((say) => !/byte [23] of/.test(say)).map((say) => say.replace(/, byte 1 of \d/, "")));
+  is("its bytes", await rows("recordhex"), listOf("mapped_screen"));
+  await set("#examples", "text_screen");
+  is("the table of lines", (await each("#records tbody tr", (row) => [...row.children].map((one) => one.textContent).join("|"))).slice(0, 2), ["0 to 19|off|||0 0|$00|off|normal|1 0|$7FFF8", "20 to 219|text|$02000|160|0 0|$02|off|normal|1 0|$0000E"]);
+  await b.run("deskPage.views.lines.choose(20)");
+  is("what is new in a line", await each("#settings dd.new", (one) => one.previousSibling.textContent), ["mode", "address", "step", "font", "record"]);
+  await set("#examples", "scrolled_band");
+  await set(cell(2, "lines"), "60");
+  await b.run("deskPage.views.lines.choose(230)");
+  is("after the list's end", await said("recordsay"), "The list has ended. The last record was the one at $00016, read for line 160. It is item 2 of the plan.");
   is("lines were compared", seen > 40, true);
   // the list of document 01: SR at 1000h, 1140h, 1280h, then off, address 13C0h
   const worked = [[2, 0x1000], [2, 0x1140], [2, 0x1280], [0, 0x13c0]], first = () => Promise.all([0, 1, 2, 3].map((n) => words(n, "MODE", "ADDRESS")));
@@ -177,6 +252,16 @@ async function lines() {
   is("its record", await words(3, "RECORD"), [0x7ffff]);
   await set("#own", "    dta $62,$80,$02 ; three lines\n 0x00 10h 00 4001");
   is("pasted as assembler", await first(), worked);
+  await set("#own", "62 80 DB 00 10 00 40 01");
+  is("DB is a byte", await said("ownsay"), "8 bytes");
+  await set("#own", Array(6000).fill("00").join(" "));
+  await begins("a list that is too long", "benchsay", "install is refused 13 (room)");
+  await set("#own", "00 C0");
+  await b.run("deskPage.views.lines.choose(0)");
+  is("a bit that is ignored", (await each("#recordwords li", (one) => one.textContent)), ["control byte 1: no bit", "control byte 2: bit 6 (ignored) END"]);
+  await part("plan");
+  is("the plan's picture is of another list", [await said("planpicturesay"), await b.run(`document.getElementById("planpicture").classList.contains("stale")`)], ["The frame is of a list of your own bytes.", true]);
+  await part("lines");
   await set("#own", "62 8 02");
   await begins("no hex", "ownsay", "'8' is no byte in hex.");
   await set("#own", "62 80 02 00 10 00 40 01");
@@ -197,6 +282,12 @@ async function lines() {
   is("the last line by key", await said("lineno"), "239");
   await b.key("ArrowUp");
   is("the line above by key", await said("lineno"), "238");
+  // a memory that is made shorter keeps its bytes
+  await set("#length", 524288);
+  await set("#loadat", "$00100");
+  await b.choose("load", example("text_screen.plan"));
+  await set("#length", 32768);
+  is("a shorter memory keeps its bytes", await b.run("[...deskPage.bench.memory.view.slice(0x100, 0x104)]"), [0x17, 0, 1, 0]);
   for (const [id, value] of [["#length", 524288], ["#from", "plan"], ["#at", "$7EB60"]]) await set(id, value);
 }
 
@@ -229,7 +320,18 @@ async function picture() {
   const [wide, high, wrong, clear] = await differ();
   is("README's picture, point by point", [wide, high % 240, wrong, clear], [672, 0, 0, true]);
   await shot("picture");
-  const whole = () => b.run(`(() => { const p = deskPage.views.picture; p.point(336, 8); return document.getElementById("point").textContent; })()`);
+  // the canvas that is seen: a line is two points high; SR at line 46 + y, two points a pixel, from point 16 on
+  const memory = readFileSync(example("small_screen.mem")), seen = [[100, 70], [8, 3], [300, 60], [200, 20]];
+  is("the picture that is seen", await points("whole", seen.map(([x, y]) => [16 + 2 * x, 2 * (46 + y) + 1])), seen.map(([x, y]) => inPalette(memory[0x1000 + 320 * y + x])));
+  for (const [name, id] of [["plan", "planpicture"], ["blitter", "blitpicture"]]) {
+    await part(name);
+    is(`${id} is drawn`, await b.run(`new Set(new Uint32Array(document.getElementById("${id}").getContext("2d").getImageData(0, 0, 336, 240).data.buffer)).size > 100`), true);
+  }
+  await part("lines");
+  await b.run("deskPage.views.lines.choose(46)");
+  is("the picture of the lines", await points("strip", seen.map(([x, y]) => [16 + 2 * x, 2 * (46 + y) + 1])), seen.map(([x, y]) => inPalette(memory[0x1000 + 320 * y + x])));
+  is("its edge", await points("strip", [[2, 2 * 3], [2, 2 * 10], [2, 2 * 60], [2, 2 * 160], [2, 2 * 190]]), ["6d7380", "4caf72", "4b8fe0", "a07be0", "e0913a"]);
+  await part("picture");
   await b.run(`deskPage.views.picture.point(120, 0)`);
   is("a line that is off", await said("point"), "line 0 · no pixels: the overlay is off");
   await b.run(`deskPage.views.picture.point(16 + 2 * 60, 46 + 79)`);
@@ -238,12 +340,15 @@ async function picture() {
   await click("#notrans");
   is("no_trans", await b.run("deskPage.bench.lines().some(({ pixels }) => pixels.includes(65535))"), false);
   await click("#notrans");
+  await click("#trans15");
+  is("trans15", await b.run("deskPage.bench.lines().some(({ pixels }) => pixels.some((pixel) => pixel !== 65535 && pixel % 16 === 15))"), false);
+  await click("#trans15");
+  is("not trans15", await b.run("deskPage.bench.lines().some(({ pixels }) => pixels.some((pixel) => pixel !== 65535 && pixel % 16 === 15))"), true);
   is("not no_trans", await b.run("deskPage.bench.lines().some(({ pixels }) => pixels.includes(65535))"), true);
   await focus("#whole");
   await b.run("deskPage.views.picture.point(336, 120)");
   await b.key("ArrowDown");
   await begins("the point by key", "point", "line 121 ");
-  await whole();
   await set("#palettes fieldset:nth-child(3) select", "grey");
   is("a grey palette", await b.run("deskPage.palettes.colour(2 * 256 + 0x40) >>> 0"), 0xff404040);
   await b.run(`deskPage.views.picture.loaded(2, Uint8Array.from({ length: 768 }, (_, i) => i % 3 === 0 ? 255 : 0), "red.pal")`);
@@ -272,9 +377,20 @@ async function picture() {
   const got = mkdtempSync(join(room, "saved-"));
   await b.send("Browser.setDownloadBehavior", { behavior: "allow", downloadPath: got });
   for (const id of ["#savepicture", "#savememory"]) { await click(id); await sleep(500); }
-  is("a saved picture", readFileSync(join(got, "screen.png")).readUInt32BE(16), 672);
-  is("a saved memory", readFileSync(join(got, "memory.bin")).length, 524288);
-  await set("#content", "example");
+  const saved = readFileSync(join(got, "memory.bin"));
+  is("a saved memory", [saved.length, saved[524287], saved.subarray(0, memory.length - 1).equals(memory.subarray(1))], [524288, memory[0], true]);
+  is("a saved picture", await b.run(`(async () => {
+    const image = new Image();
+    image.src = "data:image/png;base64,${readFileSync(join(got, "screen.png")).toString("base64")}";
+    await image.decode();
+    const canvas = Object.assign(document.createElement("canvas"), { width: 672, height: 480 }), context = canvas.getContext("2d");
+    context.drawImage(image, 0, 0);
+    const got = new Uint32Array(context.getImageData(0, 0, 672, 480).data.buffer);
+    const want = new Uint32Array(deskPage.views.picture.picture.now().getContext("2d").getImageData(0, 0, 672, 240).data.buffer);
+    return [image.width, image.height, got.every((point, i) => point === want[Math.floor(i / 1344) * 672 + (i % 672)])];
+  })()`), [672, 480, true]);
+  await click("#refill");
+  is("memory filled anew", await b.run("deskPage.bench.byte(0x1000 + 320 * 70 + 100)"), memory[0x1000 + 320 * 70 + 100]);
 }
 
 // Ticks of each scene: one for the load of each block, and W·ZX·H·ZY for its bytes. The code, and how many bytes of memory differ, where the
@@ -307,6 +423,8 @@ const blockField = (legend, name, value) => b.run(`(() => {
   input.dispatchEvent(new Event("input"));
 })()`);
 
+const SOURCE = "35d0e8", DESTINATION = "ffb454"; // the outlines, in the dark theme
+
 async function blitter() {
   await part("blitter");
   await b.run("document.activeElement.blur()");
@@ -323,7 +441,8 @@ async function blitter() {
   await b.key("r", "r");
   is("the rest of the row", [await state("FLAGS"), await state("ticks")], ["0 IDLE", "5"]);
   await blockField("size", "height", "0");
-  is("no height", await b.run(`document.querySelectorAll("#blocks [aria-invalid=true]").length`), 1);
+  is("no height", await each("#blocks .bad", (one) => one.textContent), ["height: '0' is no number from 1 to 256. The last good one counts."]);
+  is("a block in the form is not yet in memory", await b.run("deskPage.views.blitter.field && deskPage.bench.byte(0x7e000 + 15)"), 0);
   await b.key("s", "s");
   await b.key("t", "t");
   await click("[data-do=stop]");
@@ -334,9 +453,15 @@ async function blitter() {
   await begins("no byte for a register", "log", "'$100' is no byte");
   await set("#value", "$2A");
   await b.run("document.getElementById('registers').requestSubmit()");
+  await click("[data-do=reset]");
+  is("RESET clears VIDEO_CONTROL", await state("VIDEO_CONTROL"), "$00");
+  await click("#on");
+  await click("#on");
   is("a register", [await board("P0"), (await said("reads")).startsWith("reads: CORE_VERSION $10, MINOR_REVISION $24")], [0x2a, true]);
   await click("#blocks .choices button[aria-label='Add a block']");
   is("two blocks, the first with NEXT", await b.run("deskPage.views.blitter.blocks.map((bytes) => bytes[20] & 8)"), [8, 0]);
+  await click("#blocks .choices button:last-child");
+  is("blocks as assembler", await b.run("copied"), await b.run(`deskPage.views.blitter.blocks.map((bytes) => "    dta " + [...bytes].map((byte) => "$" + byte.toString(16).toUpperCase().padStart(2, "0")).join(",")).join("\\n") + "\\n"`));
   await click("#blocks .choices button[aria-label='Remove the block']");
   is("one block", await b.run("deskPage.views.blitter.blocks.length"), 1);
 
@@ -347,7 +472,7 @@ async function blitter() {
     is(`${name}: is explained`, (await said("scenesay")).length > 40, true);
     await click("[data-do=run]");
     is(`${name}: ticks`, [await state("FLAGS"), await state("ticks")], ["0 IDLE", ticks.toLocaleString("en")]);
-    if (about.code !== undefined) is(`${name}: code`, await board("CODE"), about.code);
+    if (about.code !== undefined) is(`${name}: code`, [await board("CODE"), await state("CODE")], [about.code, `$${about.code.toString(16)}`]);
     if (about.changed !== undefined) is(`${name}: bytes changed`, await state("bytes changed"), about.changed);
   }
   const pixel = (line, n) => b.run(`deskPage.bench.lines()[${line}].pixels[${n}]`), byte = (address) => b.run(`deskPage.bench.byte(${address})`);
@@ -376,8 +501,43 @@ async function blitter() {
   is("a load and 14 rows", [await state("ticks"), await state("ROW")], [String(1 + 14 * 32), "14"]);
   await sleep(100);
   await shot("blitter");
+  // the picture of memory begins with 48 rows of sprites; the ball is at 8, 8, and goes to 150, 96 of the screen below; two points a byte
+  const zoom = await b.run("deskPage.views.blitter.vram.zoom"), [ballX, ballY] = [8, 8], [toX, toY] = [150, 48 + 96];
+  is("the picture of memory", await points("vram", [[24, 24], [160, 200], [3, 3]]), [inPalette(await byte(0xc400 + 24 * 320 + 24)), inPalette(await byte(0xc400 + 200 * 320 + 160)), inPalette(0)]);
+  const corner = (x, y) => [x * zoom - 1, y * zoom - 1];
+  is("outlines at the first byte", await points("marks", [corner(ballX, ballY), corner(toX, toY), corner(ballX + 60, ballY)]), [SOURCE, DESTINATION, "nothing"]);
+  is("outlines at the last byte", await points("marks", [[ballX + 32, ballY + 32], [toX + 32, toY + 32]].map(([x, y]) => [x * zoom, y * zoom])), [SOURCE, DESTINATION]);
+  is("the next byte", await points("marks", [[ballX * zoom - 3, (ballY + 14) * zoom + 1], [toX * zoom - 3, (toY + 14) * zoom + 1]]), [SOURCE, DESTINATION]);
+  await focus("#vram");
+  await b.run("deskPage.views.blitter.vram.point(23, 23)");
+  await b.key("ArrowRight");
+  await b.key("ArrowDown");
+  const hexOf = (value, digits) => "$" + value.toString(16).toUpperCase().padStart(digits, "0"), inBall = 0xc400 + 24 * 320 + 24;
+  is("a byte of memory by key", [await said("pointed"), (await byte(inBall)) > 0], [`${hexOf(inBall, 5)} = ${hexOf(await byte(inBall), 2)}`, true]);
+  await b.run("document.activeElement.blur()");
+  await set("#viewrow", "2000");
+  is("a row that is too long", await said("viewsay"), "bytes a row are 16 to 1024: seen with 320.");
+  await set("#viewrow", "320");
   is("what the blitter paints is what the frame shows", await pixel(96 + 8, 150 + 16), 256 + (await byte(0xc400 + (8 + 8) * 320 + 8 + 16)));
   const pressed = () => b.run(`document.getElementById("play").getAttribute("aria-pressed")`);
+  await set("#scenes", "a pattern of 16");
+  await blockField("size", "width", 241);
+  is("the outline of a pattern is as wide as the pattern", await points("marks", [[48 * zoom - 1, 12 * zoom], [64 * zoom, 12 * zoom], [80 * zoom, 12 * zoom]]), [SOURCE, SOURCE, "nothing"]);
+  await set("#at", "here");
+  await set("#scenes", "a block rewrites the next one");
+  is("a scene begins anew", [await board("XDL_ADR"), await b.run(`document.getElementById("at").value`), await state("bytes changed")], [0x7eb60, "$7EB60", "0"]);
+  await set("#register", 0x53);
+  await set("#value", "1");
+  await b.key("u", "u");
+  await b.run("document.getElementById('registers').requestSubmit()");
+  is("START by a register begins a new count", await state("ticks"), "0");
+  await set("#speed", 0);
+  await b.key("p", "p");
+  await sleep(100);
+  await set("#value", "0");
+  await b.run("document.getElementById('registers').requestSubmit()");
+  await sleep(200);
+  is("stopped by a register", (await said("log")).split("\n")[0].endsWith("; it was stopped"), true);
   await set("#scenes", "zoomed 5 by 4");
   await set("#speed", 9);
   await b.key("p", "p");
@@ -428,11 +588,16 @@ async function narrow() {
 
 // The page for renters, in the page.
 async function guide() {
+  await part("blitter");
   const open = () => b.run(`document.getElementById("guide").open`);
   const heads = [...text("docs/BROWSER.md").matchAll(/^## (.*)$/gm)].map(([, head]) => head);
   await click("#helpbutton");
   is("the guide", [await open(), await each("#guide h3", (head) => head.textContent)], [true, heads]);
+  is("all of it", await each("#guide li", (one) => one.textContent), [...text("docs/BROWSER.md").matchAll(/^- (.*(?:\n {2}.*)*)/gm)].map(([, point]) => point.replace(/\n */g, " ").replace(/\*\*|`/g, "")));
   if (shots) await b.shot(join(room, "guide.png"));
+  const ticks = await b.run("deskPage.views.blitter.ticks");
+  await b.key("t", "t");
+  is("keys behind the guide do nothing", await b.run("deskPage.views.blitter.ticks"), ticks);
   await b.key("Escape");
   is("the guide is closed by key", await open(), false);
 }
@@ -459,7 +624,7 @@ async function served() {
   await begins("from a server", "verdict", "XDL 214 240 of 240 lines.");
   is("by the system's choice", await b.run("document.documentElement.dataset.theme"), "light");
   await part("lines");
-  await b.size(1300, 830);
+  await b.size(1360, 820);
   await b.run("deskPage.views.lines.choose(97)");
   await sleep(100);
   await shot("lines");
@@ -493,9 +658,20 @@ function guards() {
   refuses("a move of a computed length", "width.mjs", [other("d.ll", /(llvm\.memmove\S+\(ptr %\w+, ptr %\w+, i64 )16/, "$1%r1")], "a computed length");
   // the length of a slice read from where its pointer is: half of those 8 bytes is undefined with 32 bits
   const both = other("e.ll", /(define internal noundef i32 @"capi::deskboard_new"[\s\S]*?getelementptr i8, ptr %r\d+, i64 )8/, "$10");
-  refuses("a place for both, in another function", "width.mjs", [both], "a place that holds a pointer and a number");
+  refuses("a place for both, in another function", "width.mjs", [both], "a byte that is of a pointer and of a number");
   const wide = other("f.ll", /getelementptr i8, ptr (%\w+), i64 8/, "getelementptr i32, ptr $1, i32 2");
   refuses("another width of an address", "width.mjs", [wide], "not a pointer and a 64-bit number");
+  for (const [what, line, why] of [
+    ["a line of a form that is not known", '%"bad one" = ptrtoint ptr %a0 to i64', "a pointer as a number"],
+    ["a name of a form that is not known", "%bad-one = add i64 1, 2", "an instruction that is not on the list"],
+    ["a fill over a pointer", "call void @llvm.memset.p0.i64(ptr %a0, i8 0, i64 16, i1 false)", "a byte that is of a pointer and of a number"],
+    ["a number that reaches into a pointer", "%bad = load i64, ptr %a0, align 4", "a byte that is of a pointer and of a number"],
+    ["a wide number", "%bad = load i128, ptr %a0, align 8", "a load or a store of a new form"],
+    ["much room", "%bad = alloca i64, i64 100000, align 8", "room of a new kind"],
+    ["a call that gives a pointer", "%bad = call ptr @other(i64 1)", "a function that gives a pointer"],
+    ["an argument of another form", 'call void @"words::lay"(ptr byval(i8) %a0, ptr %a0)', "an argument of a new form"],
+  ])
+    refuses(what, "width.mjs", [other("g.ll", /(define internal noundef i32 @"capi::deskboard_new"[\s\S]*?\nstart:\n)/, `$1  ${line.replace(/\$/g, "$$$$")}\n`)], why);
   const header = join(top, "include/deskboard.h"), more = join(room, "more.h");
   const sprite = "uint32_t deskboard_sprite(uint32_t *board, size_t board_len);\n";
   writeFileSync(more, text("include/deskboard.h").replace("uint32_t deskboard_new(", `${sprite}uint32_t deskboard_new(`));
@@ -518,7 +694,7 @@ try {
   await b.theme("dark");
   await b.go(url);
   await shot("plan");
-  for (const each of [plan, files, lines, picture, blitter, keyboard, guide, themes, narrow]) await each();
+  for (const each of [plan, bytes, files, lines, picture, blitter, keyboard, guide, themes, narrow]) await each();
   is("no errors from the disk", b.errors(), []);
   const asked = b.requests().filter((address) => address !== "about:blank" && !/^(blob|data):/.test(address));
   is("no request but for the page and what it saves", [...new Set(asked)], [url]);

@@ -42,9 +42,8 @@ function header() {
     for (const [one, value] of enums[name]) numbers[one] = value;
   }
   for (const [, name, value] of code.matchAll(/^#define DESKBOARD_(\w+) (\d+)u *$/gm)) numbers[name] = Number(value);
-  const calls = [...code.matchAll(/^uint32_t deskboard_(\w+)\(/gm)].map((call) => call[1]);
-  need(calls.length > 0, HEADER, "no calls");
-  return { enums, numbers, calls };
+  need(enums.register && enums.refusal, HEADER, "no registers or no refusals");
+  return { enums, numbers };
 }
 
 // ---- docs/HELP.md: the refusals, and the fields of an item
@@ -92,7 +91,7 @@ function record() {
   const bits = [[], []], data = [];
   for (const row of rows(between(RULES, "**R34. A record**", "**R35.")).filter((row) => /^\d$/.test(row[0])))
     [row.slice(0, 3), row.slice(3, 6)].forEach(([bit, name, holds], byte) => {
-      bits[byte][Number(bit)] = name;
+      bits[byte][Number(bit)] = name === "none" ? `bit ${bit} (${holds})` : name;
       const is = holds.match(/^(\d)(?:st|nd|rd|th): (.*)$/);
       if (!is) return;
       data[Number(is[1]) - 1] = { byte, bit: Number(bit), parts: is[2].split(", ").map(datum) };
@@ -139,13 +138,12 @@ function used(numbers) {
   }
 }
 
-const { enums, numbers, calls } = header();
+const { enums, numbers } = header();
 used(numbers);
 const base64 = (file) => readFileSync(file).toString("base64");
 const out = {
   NUMBERS: numbers,
   ENUMS: enums,
-  CALLS: calls,
   SHEET: sheet(enums.refusal),
   FIELDS: fields(enums.width),
   RECORD: record(),

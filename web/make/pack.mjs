@@ -39,9 +39,11 @@ function put(html, mark, text) {
 
 visit(FIRST);
 const script = "\n" + order.map(wrapped).join(""), style = "\n" + read("style.css");
+if (/<\/script/i.test(script)) fail("the script of the page has </script in it, and would end there");
 let html = read("index.html");
 html = put(html, '<link rel="stylesheet" href="style.css">', `<style>${style}</style>`);
 html = put(html, '<script type="module" src="main.js"></script>', `<script type="module">${script}</script>`);
-html = put(html, "POLICY", `default-src 'none'; script-src ${hash(script)} 'wasm-unsafe-eval'; style-src ${hash(style)}; img-src data: blob:`);
+const allowed = [`script-src ${hash(script)} 'wasm-unsafe-eval'`, `style-src ${hash(style)}`, "img-src data: blob:"];
+html = put(html, "POLICY", ["default-src 'none'", ...allowed, "form-action 'none'", "base-uri 'none'"].join("; "));
 writeFileSync(out, html);
 console.log(`${Buffer.byteLength(html)} bytes in one file`);

@@ -12,7 +12,7 @@ export class Bench {
     this.frame = desk.words(H.FRAME_WORDS);
     this.settings = desk.words(H.SETTINGS_WORDS);
     this.line = desk.pixels(H.LINE_PIXELS);
-    this.piece = desk.bytes(H.LIST_BYTES);
+    this.lent = desk.bytes(2 * H.LIST_BYTES); // room for bytes to install, and for more than install takes
     this.length = H.MEMORY_512K;
     this.watchers = [];
     desk.call("new", this.board);
@@ -29,15 +29,18 @@ export class Bench {
   }
 
   // ---- memory
-  // Bytes to an address on, in pieces as long as the module takes. Gives the answer of the first call that is refused, or 0.
+  // One call of the module. More bytes than it takes are lent as far as there is room, so that it refuses them.
+  install(bytes, address) {
+    this.lent.view.set(bytes.subarray(0, this.lent.length));
+    return this.desk.call("install", this.memory, this.lent.first(bytes.length), address);
+  }
+
+  // A file, in pieces as long as the module takes. Gives the answer of the first call that is refused, or 0.
   load(bytes, address) {
-    for (let done = 0, answer; done === 0 || done < bytes.length; done += H.LIST_BYTES) {
-      const piece = bytes.subarray(done, done + H.LIST_BYTES);
-      this.piece.view.set(piece);
-      answer = this.desk.call("install", this.memory, this.piece.first(piece.length), done ? (address + done) % H.MEMORY_512K : address);
-      if (answer) return answer;
-    }
-    return 0;
+    let answer = this.install(bytes.subarray(0, H.LIST_BYTES), address);
+    for (let done = H.LIST_BYTES; !answer && done < bytes.length; done += H.LIST_BYTES)
+      answer = this.install(bytes.subarray(done, done + H.LIST_BYTES), (address + done) % H.MEMORY_512K);
+    return answer;
   }
 
   clear() { this.room.view.fill(0); }
@@ -61,7 +64,7 @@ export class Bench {
     return answer ? { answer, ticks: 0, accesses: 0 } : { answer, ticks: told[H.REPORT_TICKS], accesses: told[H.REPORT_ACCESSES] };
   }
 
-  // ---- the frame: 240 lines, each with its settings and its pixels
+  // ---- the frame: 240 lines, each with its settings, its pixels, and whether the list had ended before it
   lines() { return (this.shown ??= this.allLines()).lines; }
   frameAnswer() { return (this.shown ??= this.allLines()).answer; }
 
@@ -69,8 +72,9 @@ export class Bench {
     const { desk, board, frame, settings, memory, line, report } = this, lines = [];
     let answer = desk.call("start", board, frame);
     while (!answer && lines.length < H.LINES) {
+      const ended = frame.view[H.FRAME_ENDED] === 1 && frame.view[H.FRAME_REPEAT] === 0;
       answer = desk.call("next_line", frame, memory, settings) || desk.call("draw", board, settings, memory, line, report);
-      if (!answer) lines.push({ words: settings.view.slice(), pixels: line.view.slice(0, report.view[H.REPORT_PIXELS]) });
+      if (!answer) lines.push({ words: settings.view.slice(), pixels: line.view.slice(0, report.view[H.REPORT_PIXELS]), ended });
     }
     return { answer, lines };
   }

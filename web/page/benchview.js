@@ -33,8 +33,8 @@ export class BenchView {
     $("length").value = bench.length;
     $("content").append(...options(Object.entries(CONTENTS).map(([name, [says]]) => [name, says])));
     $("at").value = adr(LIST_AT);
-    $("length").onchange = () => this.refill();
-    $("content").onchange = () => this.refill();
+    $("length").onchange = () => { bench.length = Number($("length").value); this.lay(); };
+    for (const [id, when] of [["content", "onchange"], ["refill", "onclick"]]) $(id)[when] = () => { this.fill($("content").value); this.lay(); };
     for (const id of ["at", "from", "on", "notrans", "trans15", "own"]) $(id).oninput = () => this.lay();
     onFile($("load"), (bytes, name) => this.load(bytes, name));
     $("savememory").onclick = () => save("memory.bin", bench.memory.view.slice());
@@ -47,17 +47,18 @@ export class BenchView {
   }
 
   // ---- memory
-  // As much of a content as memory has room for; a memory that is shorter shows the first part of it.
+  // As much of a content as memory has room for; a memory that is shorter has the first part of it.
   fill(content) {
-    $("content").value = content;
-    this.bench.length = Number($("length").value);
     this.bench.clear();
     this.bench.load(CONTENTS[content][1]().subarray(0, this.bench.length), 0);
   }
 
-  refill() {
-    this.fill($("content").value);
-    this.lay();
+  // All of it as at the beginning, with this content: the longest memory, and the plan's list at its place, switched on.
+  begin(content) {
+    for (const [id, value] of [["length", H.MEMORY_512K], ["content", content], ["from", "plan"], ["at", adr(LIST_AT)]]) $(id).value = value;
+    $("on").checked = true;
+    this.bench.length = H.MEMORY_512K;
+    this.fill(content);
   }
 
   load(bytes, name) {
@@ -81,24 +82,31 @@ export class BenchView {
     return from === "plan" ? this.plan.list : new Uint8Array(0);
   }
 
-  // Installs the list, points XDL_ADR at it and sets VIDEO_CONTROL.
+  // Installs the list, points XDL_ADR at it, and sets VIDEO_CONTROL. Where there is no list or no address, memory and XDL_ADR stay.
   lay() {
-    const { bench } = this, bytes = this.listBytes(), at = number($("at").value);
-    const bits = [["on", H.XDL_ENABLED], ["notrans", H.NO_TRANS], ["trans15", H.TRANS15]].reduce((sum, [id, bit]) => sum + ($(id).checked ? bit : 0), 0);
-    const typed = Number.isInteger(at) && at >= 0 && at < 2 ** 32;
+    const { bench } = this, bytes = this.listBytes(), at = number($("at").value), typed = Number.isInteger(at) && at >= 0 && at < 2 ** 32;
+    const answer = typed && bytes ? bench.install(bytes, at) : 0, done = typed && bytes && !answer;
+    const bits = [["on", H.XDL_ENABLED], ["notrans", H.NO_TRANS], ["trans15", H.TRANS15]].filter(([id]) => $(id).checked).map(([, bit]) => bit);
     $("at").setAttribute("aria-invalid", String(!typed));
-    const answer = typed && bytes ? bench.load(bytes, at) : 0;
-    if (typed && !answer) bench.writeAll(H.WRITE_XDL_ADR0, at, 3);
-    bench.write(H.WRITE_VIDEO_CONTROL, bits);
+    if (done) bench.writeAll(H.WRITE_XDL_ADR0, at, 3);
+    bench.write(H.WRITE_VIDEO_CONTROL, bits.reduce((sum, bit) => sum + bit, 0));
+    this.showsPlan = Boolean(done) && $("from").value === "plan";
     this.say(typed, answer, bytes, at);
     bench.changed();
+  }
+
+  // Why the frame is not that of the plan in the table; nothing where it is.
+  otherFrame() {
+    if (this.showsPlan) return "";
+    const others = { plan: "the last list that was installed", own: "a list of your own bytes", memory: "the list that memory has" };
+    return `The frame is of ${others[$("from").value]}.`;
   }
 
   say(typed, answer, bytes, at) {
     if (!typed) return this.tell(`'${$("at").value}' is no address: write 4096, $1000, 0x1000 or 1000h. XDL_ADR stays.`, true);
     if (answer) return this.tell(`install is ${inWords(answer)} XDL_ADR stays.`, true);
     const from = $("from").value, asks = $("on").checked ? "" : " It is not switched on.";
-    if (!bytes) return this.tell(from === "plan" ? "The plan is refused: memory keeps the last list." : "Memory keeps the last list.", true);
+    if (!bytes) return this.tell(`${from === "plan" ? "The plan is refused" : "These are no bytes"}: memory and XDL_ADR stay.`, true);
     if (from === "memory") return this.tell(`XDL_ADR is ${adr(at)}; nothing is installed.${asks}`);
     this.tell(`${count(bytes.length)} bytes are installed at ${adr(at)}, and XDL_ADR is that address.${asks}`);
   }

@@ -64,17 +64,28 @@ export function block(values) {
   for (const [name, value] of Object.entries({ ...PLAIN, ...values })) ALL[name].set(bytes, value);
   return bytes;
 }
-export const fieldOf = (bytes, name) => ALL[name].get(bytes);
+const fieldOf = (bytes, name) => ALL[name].get(bytes);
+export const setNext = (bytes, follows) => ALL.NEXT.set(bytes, follows ? 1 : 0);
 
-// Where the byte of a row and a column lies, not yet reduced to 19 bits (R22): for the marks in the picture of memory.
-export function places(bytes) {
+// Where the bytes of a block lie (R22), not yet reduced to 19 bits, for the marks in the picture of memory: of the source, where it is read, and of the
+// destination the area, and, while the board works on the block, the byte that comes next. The source's area has its own rows and columns, as they are
+// before zoom and pattern repeat them.
+export function places(bytes, board) {
   const of = (name) => fieldOf(bytes, name), across = of("pattern") ? of("pattern width") : of("width");
-  const sourceRow = (row) => Math.floor(row / of("zoom y")), sourceColumn = (column) => Math.floor(column / of("zoom x")) % across;
-  return {
-    columns: of("width") * of("zoom x"),
-    rows: of("height") * of("zoom y"),
-    reads: of("AND mask") !== 0 && of("mode") !== 7,
-    source: (row, column) => of("source address") + sourceRow(row) * of("source step y") + sourceColumn(column) * of("source step x"),
-    destination: (row, column) => of("destination address") + row * of("destination step y") + column * of("destination step x"),
-  };
+  const at = (what) => (row, column) => of(`${what} address`) + row * of(`${what} step y`) + column * of(`${what} step x`);
+  const source = at("source"), destination = at("destination"), reads = of("AND mask") !== 0 && of("mode") !== 7;
+  const busy = board[H.BOARD_FLAGS] === H.BUSY, row = board[H.BOARD_ROW], column = board[H.BOARD_COLUMN];
+  const areas = [
+    {
+      name: "source",
+      area: { at: source, rows: of("height"), columns: Math.min(of("width"), across) },
+      next: busy ? source(Math.floor(row / of("zoom y")), Math.floor(column / of("zoom x")) % across) : null,
+    },
+    {
+      name: "destination",
+      area: { at: destination, rows: of("height") * of("zoom y"), columns: of("width") * of("zoom x") },
+      next: busy ? destination(row, column) : null,
+    },
+  ];
+  return areas.filter(({ name }) => reads || name === "destination");
 }

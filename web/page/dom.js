@@ -1,4 +1,4 @@
-// Small helpers for the page: elements, numbers as text, files and the clipboard.
+// What all parts of the page use: elements, numbers as text, files and the clipboard.
 export const $ = (id) => document.getElementById(id);
 
 export function el(name, props = {}, ...children) {
@@ -23,11 +23,11 @@ export function number(text) {
   return sixteen ? parseInt(sixteen[1], 16) : /^-?\d+$/.test(typed) ? Number(typed) : NaN;
 }
 
-// Bytes as they are pasted: F4 0F, F40F, $F4,$0F, 0xF4 or lines of an assembler's dta, .byte or .db; what is behind a ; is a remark.
-// A word that is none is named.
+// Bytes as they are pasted: F4 0F, F40F, $F4,$0F, 0xF4, or lines of an assembler's dta, .byte or .db (DB alone is a byte); what is behind a ; is a
+// remark. A word that is none is named.
 export function pasted(text) {
   const bytes = [];
-  for (const word of text.replace(/;.*$/gm, "").split(/[\s,]+/).filter((word) => word && !/^(\.?byte|\.?db|dta)$/i.test(word))) {
+  for (const word of text.replace(/;.*$/gm, "").split(/[\s,]+/).filter((word) => word && !/^(\.?byte|\.db|dta)$/i.test(word))) {
     const digits = word.match(/^(?:\$|0x)?((?:[0-9a-f]{2})+)h?$/i);
     if (!digits) return { bytes: null, wrong: word };
     for (const pair of digits[1].match(/../g)) bytes.push(parseInt(pair, 16));

@@ -20,7 +20,6 @@ function shown(place, value) {
   if (place === H.LINE_ADDRESS || place === H.LINE_MAP_ADDRESS) return adr(value);
   return place === H.LINE_FONT || place === H.LINE_PRIORITY ? "$" + hex(value) : String(value);
 }
-const span = (first, last) => (first === last ? adr(first) : `${adr(first)} to ${adr(last)}`);
 
 export class LinesView {
   constructor(bench, picture, plan) {
@@ -39,12 +38,12 @@ export class LinesView {
     this.choose(this.line);
   }
 
-  // ---- lines that are alike in mode, map and record, one below the other
+  // ---- lines that are alike in mode, map and record, one below the other, with the settings of the first
   bands() {
     const bands = [], alike = (a, b) => [H.LINE_MODE, H.LINE_MAP_ON, H.LINE_RECORD].every((place) => a[place] === b[place]);
     this.bench.lines().forEach(({ words }, n) => {
-      if (n && alike(bands.at(-1).words, words)) Object.assign(bands.at(-1), { to: n, last: words });
-      else bands.push({ from: n, to: n, words, last: words });
+      if (n && alike(bands.at(-1).words, words)) bands.at(-1).to = n;
+      else bands.push({ from: n, to: n, words });
     });
     return bands;
   }
@@ -57,12 +56,12 @@ export class LinesView {
     if (answer) $("records").append(el("caption", {}, `The frame is ${inWords(answer)}`));
   }
 
-  row({ from, to, words: w, last }) {
+  row({ from, to, words: w }) {
     const mode = `mode${w[H.LINE_MODE]}`, off = w[H.LINE_MODE] === H.MODE_OFF;
     const cells = [
       from === to ? from : `${from} to ${to}`,
       el("span", { className: `tag ${mode}` }, MODES[w[H.LINE_MODE]]),
-      off ? "" : span(w[H.LINE_ADDRESS], last[H.LINE_ADDRESS]),
+      off ? "" : adr(w[H.LINE_ADDRESS]),
       off ? "" : w[H.LINE_STEP],
       `${w[H.LINE_HSCROLL]} ${w[H.LINE_VSCROLL]}`,
       "$" + hex(w[H.LINE_FONT]),
@@ -95,22 +94,23 @@ export class LinesView {
 
   origin(record, lines) {
     const none = record === H.NO_RECORD, bytes = none ? [] : explainRecord((place) => this.bench.byte((record + place) % H.MEMORY_512K));
-    const first = lines.findIndex(({ words }) => words[H.LINE_RECORD] === record);
-    $("recordsay").textContent = none ? "No record was read: the list is not switched on." : this.readFor(first, record);
+    const first = lines.findIndex(({ words }) => words[H.LINE_RECORD] === record), { ended } = lines[this.line];
+    $("recordsay").textContent = none ? "No record was read: the list is not switched on." : this.readFor(first, record, ended);
     $("recordhex").hidden = none;
     $("recordhex").replaceChildren(el("div", {}, ...bytes.map(({ value, say }) => el("span", { title: say }, hex(value)))));
     const firsts = bytes.filter(({ say }) => !/, byte [23] of/.test(say)); // a field of several bytes is said once
     $("recordwords").replaceChildren(...firsts.map(({ say }) => el("li", {}, say.replace(/, byte 1 of \d/, ""))));
   }
 
-  readFor(first, record) {
-    const later = first < this.line ? ` and in force ${this.line - first} lines later` : "";
+  readFor(first, record, ended) {
+    if (ended) return `The list has ended. The last record was the one at ${adr(record)}, read for line ${first}.${this.item(record)}`;
+    const later = first < this.line ? `, ${this.line - first} lines above` : "";
     return `The record at ${adr(record)}, read for line ${first}${later}.${this.item(record)}`;
   }
 
   // Which item of the plan it is, where the list is the plan's: the records of a list stand one behind the other.
   item(record) {
-    if ($("from").value !== "plan" || !this.plan.list) return "";
+    if (this.plan.otherFrame()) return "";
     let at = this.bench.word[H.BOARD_XDL_ADR];
     const n = this.plan.records().findIndex((row) => { const here = at === record; at = (at + row.length) % H.MEMORY_512K; return here; });
     return n < 0 ? "" : ` It is item ${n} of the plan.`;

@@ -22,6 +22,7 @@ const ready = performance.now() - began;
 
 const bench = new Bench(desk), palettes = new Palettes(), picture = new FramePicture(bench, palettes);
 const plan = new PlanView(bench, picture), benchView = new BenchView(bench, plan);
+plan.otherFrame = () => benchView.otherFrame();
 const views = {
   plan,
   lines: new LinesView(bench, picture, plan),
@@ -52,9 +53,11 @@ $("tabs").onkeydown = (event) => {
 for (const tab of tabs) tab.onclick = () => open(tab.id.slice(4));
 $("theme").onclick = () => { root.dataset.theme = root.dataset.theme === "dark" ? "light" : "dark"; picture.stale(); redraw(); };
 addEventListener("resize", redraw);
+// A file that is dropped beside the picture must not open in place of the page.
+for (const kind of ["dragover", "drop"]) document.addEventListener(kind, (event) => event.preventDefault());
 guide();
 
-benchView.fill(FIRST_MEMORY);
+benchView.begin(FIRST_MEMORY);
 plan.changed = () => benchView.lay();
 bench.watch(redraw);
 plan.first(FIRST_PLAN);

@@ -40,19 +40,19 @@ function held(name, line) {
   return line[H["LINE_" + name.replace("overlay ", "").replace(/ /g, "_").toUpperCase()]];
 }
 
-// A new item: as the item above it where there is one, else as a line is before any record; eight lines.
+// A new item of eight lines. One that runs on has the fields of the item above it; a full band, what a line has before any record.
 export function newItem(kind, above, line) {
-  const value = (name) => (name === "lines" ? 8 : kind === 2 && above ? above[name] ?? held(name, line) : held(name, line));
-  return Object.fromEntries([["kind", kind], ...FIELDS[kind].map((field) => [field.name, value(field.name)])]);
+  const value = ({ name, least }) => (kind === 2 ? above?.[name] : undefined) ?? held(name, line) ?? least;
+  return Object.fromEntries([["kind", kind], ...FIELDS[kind].map((field) => [field.name, field.name === "lines" ? 8 : value(field)])]);
 }
 
-// ---- what a byte is: { name, value, say }; name is that of the field in a plan, wherever the byte stands
+// ---- what a byte is: { names, value, say }; names are those of the fields in a plan that it is of, wherever it stands
 const part = (size, i) => (size === 1 ? "" : `, byte ${i + 1} of ${size}`);
 const inHex = (value, size) => "$" + hex(value, 2 * size);
 
 export function explainItem(item) {
   const size = sizeOf(item.kind), told = [];
-  const put = (name, many, value, say) => { for (let i = 0; i < many; i++) told.push({ name, value: low(value, i), say: say + part(many, i) }); };
+  const put = (name, many, value, say) => { for (let i = 0; i < many; i++) told.push({ names: [name], value: low(value, i), say: say + part(many, i) }); };
   put("length", 2, size, `length of the body: ${size}`);
   put("kind", 2, item.kind, `kind ${item.kind}: ${item.kind === 1 ? "a full band" : "running on"}`);
   for (const field of FIELDS[item.kind]) {
@@ -62,19 +62,23 @@ export function explainItem(item) {
   return told;
 }
 
-// The names in a record that differ from a plan's.
-const inPlan = { repeat: "lines", "field width - 1": "field width", "field height - 1": "field height", "width and palettes": "width" };
+// The fields of a plan that a part of a record is made of, where it has another name.
+const IN_PLAN = { repeat: ["lines"], "field width - 1": ["field width"], "field height - 1": ["field height"], "width and palettes": ["width", "palettes"] };
+const CONTROL_IN_PLAN = [["mode", "map"], ["mode"]];
+// What its numbers are, of a part that has more than one (R36).
+const insideOf = { "width and palettes": (v) => ` (width ${v & 3}, overlay palette ${(v >> 4) & 3}, playfield palette ${v >> 6})` };
 const bitsOf = (value, names) => names.filter((_, bit) => (value >> bit) & 1).join(" ") || "no bit";
 
 // One record of any list, given the byte at each place from its first control byte on.
 export function explainRecord(at) {
-  const told = [0, 1].map((byte) => ({ name: "control", value: at(byte), say: `control byte ${byte + 1}: ${bitsOf(at(byte), RECORD.bits[byte])}` }));
+  const control = (byte) => `control byte ${byte + 1}: ${bitsOf(at(byte), RECORD.bits[byte])}`;
+  const told = CONTROL_IN_PLAN.map((names, byte) => ({ names, value: at(byte), say: control(byte) }));
   for (const { byte, bit, parts } of RECORD.data) {
     if (!((at(byte) >> bit) & 1)) continue;
     for (const { name, size } of parts) {
       const first = told.length, value = whole(at, first, size), bits = RECORD.bits[byte][bit];
-      const says = `${bits}, ${name}: ${size > 1 ? inHex(value, size) : value}`;
-      for (let i = 0; i < size; i++) told.push({ name: inPlan[name] ?? name, value: at(first + i), say: says + part(size, i) });
+      const says = `${bits}, ${name}: ${size > 1 ? inHex(value, size) : value}${insideOf[name]?.(value) ?? ""}`;
+      for (let i = 0; i < size; i++) told.push({ names: IN_PLAN[name] ?? [name], value: at(first + i), say: says + part(size, i) });
     }
   }
   return told;

@@ -5,27 +5,30 @@ import { H, itemOf, numberOf } from "./desk.js";
 import { bytesOfPlan, explainItem, fits, inRange, itemsOfPlan, newItem, rangeOf, recordsOf } from "./plan.js";
 import { told } from "./sheet.js";
 import { show } from "./picture.js";
-import { $, adr, assembler, copy, count, el, hex, number, onFile, options, pasted, save, upDown } from "./dom.js";
+import { $, adr, assembler, copy, count, el, hex, number, onFile, options, pasted, save, say, upDown } from "./dom.js";
 
-const MOST_BYTES = 16384; // more than any plan that the module takes
-const GROUPS = [
-  ["", ["lines"]],
-  ["overlay", ["mode", "overlay address", "overlay step", "hscroll", "vscroll", "font"]],
-  ["attribute map", ["map", "map address", "map step", "map hscroll", "map vscroll", "field width", "field height"]],
-  ["line", ["width", "palettes", "priority"]],
-];
+const MOST_BYTES = 8192; // as planxdl: more than any plan that the module takes
+
+// What stands above a field in the table. The fields come in the sheet's order, so each group is in one piece.
+function groupOf(name) {
+  if (name === "lines") return "";
+  if (/^(map|field)\b/.test(name)) return "attribute map";
+  return ["width", "palettes", "priority"].includes(name) ? "line" : "overlay";
+}
+const NAMES = FIELDS[1].map(({ name }) => name);
+const GROUPS = NAMES.map(groupOf).filter((group, i, all) => group !== all[i - 1]);
 const headOf = (name) => name.replace(/^(overlay|map) (?=.)/, "").replace("field ", "f. ");
 const shown = (field, value) => (field.size === 3 ? adr(value) : field.name === "priority" || field.name === "font" ? "$" + hex(value) : String(value));
 const KEPT = 100; // steps that can be undone
 
 export class PlanView {
   constructor(bench, picture) {
-    Object.assign(this, { bench, picture, items: [], chosen: 0, list: null, typed: new Map(), undone: [], changed: () => {} });
+    Object.assign(this, { bench, picture, items: [], chosen: 0, list: null, typed: new Map(), undone: [], changed: () => {}, otherFrame: () => "" });
     this.lent = bench.desk.bytes(MOST_BYTES);
     this.out = bench.desk.bytes(H.LIST_BYTES);
     this.root = $("plan");
     $("examples").append(...options([["", "choose"], ...EXAMPLES.map(({ name }) => [name, name.replace(/_/g, " ")])]));
-    $("examples").onchange = () => { this.example($("examples").value); $("examples").value = ""; };
+    $("examples").onchange = () => this.example($("examples").value);
     onFile($("open"), (bytes, name) => this.open(bytes, name));
     for (const button of this.root.querySelectorAll("[data-do]")) button.onclick = () => this.act(button.dataset.do);
     for (const id of ["listhex", "planhex"]) this.walk($(id));
@@ -43,11 +46,13 @@ export class PlanView {
   example(name) {
     const found = EXAMPLES.find((each) => each.name === name);
     if (found) this.open(pasted(found.plan).bytes, `${name}: ${found.says}`);
+    $("examples").value = name;
   }
 
   open(bytes, name) {
-    const { answer } = this.compile(bytes), items = itemsOfPlan(bytes);
-    if (!items) return this.refused(answer, `${name} is not opened: it is no row of items. `);
+    const { answer } = this.compile(bytes), long = bytes.length > MOST_BYTES, items = long ? null : itemsOfPlan(bytes);
+    const why = long ? `it has ${count(bytes.length)} bytes, and no plan has more than ${count(MOST_BYTES)}` : "it is no row of items";
+    if (!items) return this.refused(answer, [`${name} is not opened: ${why}. `]);
     this.replace(items);
     $("byte").textContent = name;
   }
@@ -65,8 +70,9 @@ export class PlanView {
   act(what) {
     const { items, chosen } = this, item = items[chosen], after = items.length ? chosen + 1 : 0;
     if (what === "saveplan") return save("screen.plan", bytesOfPlan(items));
-    if (what === "savelist") return this.list && save("screen.xdl", this.list);
-    if (what === "assembler") return this.list && this.copyList();
+    if (["savelist", "assembler"].includes(what) && !this.list) return say("there is no list: the plan is refused");
+    if (what === "savelist") return save("screen.xdl", this.list);
+    if (what === "assembler") return this.copyList();
     if (what === "undo") return this.undo();
     this.keep();
     if (what === "full") this.insert(after, newItem(1, null, this.bench.beginning()));
@@ -91,6 +97,7 @@ export class PlanView {
     const now = bytesOfPlan(this.items);
     if (String(this.undone.at(-1)) !== String(now)) this.undone.push(now);
     if (this.undone.length > KEPT) this.undone.shift();
+    $("examples").value = ""; // so that the same one can be chosen again
   }
   undo() {
     const now = String(bytesOfPlan(this.items));
@@ -112,17 +119,17 @@ export class PlanView {
 
   // ---- the table
   table() {
-    const names = GROUPS.flatMap(([, names]) => names);
-    const above = GROUPS.map(([says, of]) => el("th", { colSpan: of.length, className: says && "group", scope: "colgroup" }, says));
+    const wide = (group) => NAMES.filter((name) => groupOf(name) === group).length;
+    const above = GROUPS.map((group) => el("th", { colSpan: wide(group), className: group && "group", scope: "colgroup" }, group));
     const groups = el("tr", {}, el("th", { colSpan: 2 }), ...above);
-    const heads = el("tr", {}, el("th", {}, "item"), el("th", {}, "from"), ...names.map((name) => el("th", { title: name, scope: "col" }, headOf(name))));
-    const rows = this.items.map((item, n) => this.row(item, n, names));
+    const heads = el("tr", {}, el("th", {}, "item"), el("th", {}, "from"), ...NAMES.map((name) => el("th", { title: name, scope: "col" }, headOf(name))));
+    const rows = this.items.map((item, n) => this.row(item, n));
     $("items").replaceChildren(el("thead", {}, groups, heads), el("tbody", {}, ...rows));
     this.choose(this.chosen);
   }
 
-  row(item, n, names) {
-    const cells = names.map((name) => {
+  row(item, n) {
+    const cells = NAMES.map((name) => {
       const field = FIELDS[item.kind].find((each) => each.name === name);
       return field ? this.cell(item, n, field) : el("td", { className: "none", title: "runs on from above" }, "·");
     });
@@ -207,16 +214,15 @@ export class PlanView {
     const [typed] = this.typed.values();
     this.rows().forEach((row, n) => row.classList.toggle("faulty", answer !== 0 && numberOf(answer) !== H.REFUSED_NO_BAND && n === itemOf(answer)));
     for (const cell of this.root.querySelectorAll("[data-at]")) cell.firstChild.setAttribute("aria-invalid", String(this.typed.has(cell.dataset.at)));
-    if (typed) return this.put(true, el("b", {}, "not taken "), typed);
-    if (answer) return this.refused(answer, "", this.wrong(answer));
-    const below = lines < H.LINES ? "; below them the overlay and the map are off" : "";
-    this.put(false, el("b", {}, `XDL ${this.list.length} `), `${lines} of ${H.LINES} lines${below}.`);
+    const before = typed ? [el("b", {}, "not taken "), `${typed} `] : [];
+    if (answer) return this.refused(answer, before, this.wrong(answer));
+    this.put(Boolean(typed), ...before, el("b", {}, `XDL ${this.list.length} `), `${lines} of ${H.LINES} lines.`);
   }
   refused(answer, before, wrong = []) {
     for (const field of wrong) this.at(itemOf(answer), field.name).firstChild.setAttribute("aria-invalid", "true");
     const value = (field) => count(this.items[itemOf(answer)][field.name]);
     const here = wrong.map((field) => ` Here: ${field.name} is ${value(field)}, its range is ${rangeOf(field)}.`);
-    this.put(true, before, ...told(answer, ...here));
+    this.put(true, ...before, ...told(answer, ...here));
   }
   // The fields of an item that was refused 9 which are out of the ranges on the sheet.
   wrong(answer) {
@@ -242,11 +248,11 @@ export class PlanView {
   point(span) {
     for (const marked of this.root.querySelectorAll(".hit, .at")) marked.classList.remove("hit", "at");
     if (!span) return ($("byte").textContent = "Point at a byte, or go to it with the arrow keys: here it is said what it is.");
-    const { item, name, value, say } = span.byte;
+    const { item, names, value, say } = span.byte, shares = (other) => other.byte.item === item && other.byte.names.some((name) => names.includes(name));
     $("byte").textContent = `item ${item} · $${hex(value)} = ${value} · ${say}`;
     span.classList.add("at");
-    this.at(item, name)?.classList.add("hit");
-    for (const other of this.root.querySelectorAll(".hex span")) if (other.byte.item === item && other.byte.name === name) other.classList.add("hit");
+    for (const name of names) this.at(item, name)?.classList.add("hit");
+    for (const other of this.root.querySelectorAll(".hex span")) if (shares(other)) other.classList.add("hit");
   }
 
   walk(box) {
@@ -264,7 +270,8 @@ export class PlanView {
 
   // ---- the frame, small
   draw() {
-    $("planpicture").classList.toggle("stale", !this.list);
+    $("planpicturesay").textContent = this.otherFrame();
+    $("planpicture").classList.toggle("stale", Boolean(this.otherFrame()));
     show($("planpicture"), this.picture);
   }
 }

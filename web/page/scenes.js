@@ -1,7 +1,7 @@
 // Scenes for the blitter: a memory with a screen of 320 bytes a line, two rows of text below it, and sprites; and lists of blocks, each of which shows one
 // rule. The screen is that of the example plan picture_status; its font is the example memory's.
 import { H } from "./desk.js";
-import { block } from "./block.js";
+import { block, setNext } from "./block.js";
 
 export const SCENE_PLAN = "picture_status";
 const LINE = 320, LINES = 224, CHARACTERS = 80; // bytes of a line of the screen, its lines, and characters of a row of text
@@ -52,7 +52,7 @@ const fill = (values) => block({ "AND mask": 0, ...values });
 const BALL = { "source address": sprite(8, 8), mode: 1 };
 const STRIPES = { "source address": sprite(48, 12), "source step y": 0, pattern: 1, "pattern width": 16 };
 const POINTER = fill({ "destination address": at(60, 40), width: 200, height: 120, "XOR mask": 0x1f, mode: 5 });
-const next = (bytes) => { const followed = bytes.slice(); followed[H.BLOCK_CONTROL] |= 8; return followed; };
+const next = (bytes) => { const followed = bytes.slice(); setNext(followed, true); return followed; };
 
 // An item of the plan, by the fields that differ from a line before any record.
 const TEXT_BAND = { mode: H.MODE_TEXT, "overlay address": TEXT, "overlay step": ROW_BYTES, font: FONT_NUMBER };
