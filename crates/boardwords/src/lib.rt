@@ -137,7 +137,7 @@ pub fn board_fits(words: &[u32]) -> bool
     most[9] = 4294967295;
     most[33] = 65535;
     most[34] = 65535;
-    all_within(words, 0, &most)
+    all_within(words, &most)
 }
 
 fn put_side(words: &mut [u32], side: Side)

@@ -189,7 +189,7 @@ pub fn settings_fits(words: &[u32]) -> bool
     ensures { λ r. ⌜ r ≡ settingsFits (now (words .entry)) ⌝ }
 {
     let most = largest();
-    all_within(words, 0, &most[..SETTINGS_WORDS])
+    all_within(words, &most[..SETTINGS_WORDS])
 }
 
 // Whether each word of a frame is.
@@ -197,7 +197,7 @@ pub fn frame_fits(words: &[u32]) -> bool
     ensures { λ r. ⌜ r ≡ frameFits (now (words .entry)) ⌝ }
 {
     let most = largest();
-    all_within(words, 0, &most)
+    all_within(words, &most)
 }
 
 // The words of a frame, laid over what is lent: those of its settings, and five.

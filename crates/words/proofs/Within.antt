@@ -25,7 +25,7 @@ next : (k n : ℕ) → k + 1 + n ≡ k + suc n
 next k n = omega arith
 
 -- past the end there are zeros, and these are within every limit
-pub within-past : (most words : List ℕ) (k : ℕ) → length words ≤ k → within most words k ≡ true
+within-past : (most words : List ℕ) (k : ℕ) → length words ≤ k → within most words k ≡ true
 unfolding within
 within-past [] words k h = refl
 within-past (m ∷ more) words k h =
@@ -42,22 +42,22 @@ within-rest (m ∷ more) words k zero h = within-past (m ∷ more) words (k + 0)
 within-rest (m ∷ more) words k (suc i) h =
     ap (within (drop i more) words) (sym (next k i)) ∙ within-rest more words (k + 1) i (omega arith)
 
--- a loop has tested i words, from `from` on: the tests so far with those left give what the whole was to give
-module _ (all : Bool) (most words : List ℕ) (from i : ℕ) (so-far : all && within (drop i most) words (from + i) ≡ within most words from) where
+-- a loop has tested i words: the tests so far with those left give what the whole was to give
+module _ (all : Bool) (most words : List ℕ) (i : ℕ) (so-far : all && within (drop i most) words i ≡ within most words 0) where
   pub within-turn :
-      i < length most
-      → (all && leb (wordAt words (from + i)) (getD most i 0)) && within (drop (i + 1) most) words (from + (i + 1)) ≡ within most words from
+      i < length most → (all && leb (wordAt words i) (getD most i 0)) && within (drop (i + 1) most) words (i + 1) ≡ within most words 0
   unfolding within
   within-turn h =
-      let here : Bool = leb (wordAt words (from + i)) (getD most i 0) in
-      ap (λ (n : ℕ). (all && here) && within (drop n most) words (from + n)) (add-one i)
-      ∙ ap (λ (n : ℕ). (all && here) && within (drop (suc i) most) words n) (omega arith)
-      ∙ and-assoc all here (within (drop (suc i) most) words (from + i + 1))
-      ∙ sym (ap (λ (l : List ℕ). all && within l words (from + i)) (drop-cons most i 0 h))
+      let here : Bool = leb (wordAt words i) (getD most i 0) in
+      ap (λ (n : ℕ). (all && here) && within (drop n most) words (i + 1)) (add-one i)
+      ∙ and-assoc all here (within (drop (suc i) most) words (i + 1))
+      ∙ sym (ap (λ (l : List ℕ). all && within l words i) (drop-cons most i 0 h))
       ∙ so-far
 
-  pub within-end : min (length words - from) (length most) ≤ i → all ≡ within most words from
-  within-end h = sym (ap (λ (t : Bool). all && t) (within-rest most words from i h) ∙ and-true all) ∙ so-far
+  pub within-end : min (length words) (length most) ≤ i → all ≡ within most words 0
+  within-end h =
+      let rest = ap (within (drop i most) words) (sym (zero-add i)) ∙ within-rest most words 0 i (omega arith) in
+      sym (ap (λ (t : Bool). all && t) rest ∙ and-true all) ∙ so-far
 
 -- two tables are tested one after the other
 within-append : (most more words : List ℕ) (k : ℕ) → within (most ++ more) words k ≡ within most words k && within more words (k + length most)

@@ -1,11 +1,14 @@
 -- `capi::deskboard_draw` meets its contract. Assumes nothing.
-use mathlib.Core.Path.{refl, sym, ap, _∙_}
+use mathlib.Core.Path.{_≡_, refl, sym, ap, _∙_}
+use mathlib.Core.Bool.{true}
+use lib.ListN.{length}
 use borrow.Author.Tests.{lt-leb, le-leb, not-true, not-false}
+use Rattle.vram.specs.Memory.{goodLength}
 use Rattle.pixels.specs.Draw.{drawTold}
 use Rattle.capi.specs.Calls.{drawCall}
 use Rattle.capi.proofs.Told.{alone}
-use Rattle.capi.proofs.Passed.{on-board}
-use Rattle.capi.proofs.Drawn.{on-settings, draw-told, draw-short}
+use Rattle.capi.proofs.Passed.{OnBoard, on-board}
+use Rattle.capi.proofs.Drawn.{OnSettings, on-settings, draw-told, draw-short}
 use borrow.Author.Needs.{needs}
 use Rattle.capi.proofs.deskboard_draw.Statement.{statement}
 use Rattle.capi.proofs.deskboard_draw.Tie as tie
@@ -69,19 +72,33 @@ settings-of-requires c κs = search needs
 draw-unreported-requires : tie.Need-draw-unreported-requires
 draw-unreported-requires c κs = search needs
 
+-- where both states are read: the function's entry, and what the tests before it have told of memory's length, the board and the settings
+abbrev Both : Type 0
+Both = tie.After-settings-of
+
+abbrev tested : Both → tie.After-board-fits
+tested p = p .before .before .before .before .before .before
+
+abbrev entry : Both → tie.Start
+entry p = tested p .before .before .before .before .before .before .before .before .before
+
+good-there : (p : Both) → goodLength (length (entry p .args .mem .now)) ≡ true
+good-there p =
+    let one = tested p .before .before in
+    sym (one .before .good-length .ensures) ∙ not-false _ (one .if1 .left)
+
+board-there : (p : Both) → OnBoard (entry p .args .board .now) (p .before .board-of .result)
+board-there p = on-board (tested p .before .if2 .left) (tested p .board-fits .ensures) (p .before .before .before .before .before .if3 .left) (p .before .board-of .ensures)
+
+settings-there : (p : Both) → OnSettings (entry p .args .settings .now) (p .settings-of .result)
+settings-there p =
+    let five = p .before .before in
+    on-settings (five .before .before .if4 .left) (five .before .settings-fits .ensures) (five .if5 .left) (p .settings-of .ensures)
+
 returns-6 : tie.Need-returns-6
 returns-6 c =
-    let six = c .before in
-    let five = six .before .before .before in
-    let four = five .before .before in
-    let three = four .before in
-    let two = three .before .before in
-    let one = two .before in
-    let good = sym (one .before .good-length .ensures) ∙ not-false _ (one .if1 .left) in
-    let a = one .before .before .before .before .before .before .before .args in
-    let o = on-board (two .if2 .left) (three .before .board-fits .ensures) (three .if3 .left) (six .before .before .board-of .ensures) in
-    let t = on-settings (four .if4 .left) (five .before .settings-fits .ensures) (five .if5 .left) (six .before .settings-of .ensures) in
-    draw-short o t (a .mem .now) (a .line .now) (a .report .now) good (six .if6 .taken) _ (c .draw-unreported .ensures)
+    let p = c .before .before in
+    draw-short (board-there p) (settings-there p) _ _ _ (good-there p) (c .before .if6 .taken) _ (c .draw-unreported .ensures)
 
 draw-requires : tie.Need-draw-requires
 draw-requires c κs = search needs
@@ -115,36 +132,26 @@ same-length-2 c = search needs
 
 returns-7 : tie.Need-returns-7
 returns-7 c =
-    let six = c .before .before .before .before .before .before .before .before .before .before .before .before in
-    let five = six .before .before .before in
-    let four = five .before .before in
-    let three = four .before in
-    let two = three .before .before in
-    let one = two .before in
-    let good = sym (one .before .good-length .ensures) ∙ not-false _ (one .if1 .left) in
-    let a = one .before .before .before .before .before .before .before .args in
-    let o = on-board (two .if2 .left) (three .before .board-fits .ensures) (three .if3 .left) (six .before .before .board-of .ensures) in
-    let t = on-settings (four .if4 .left) (five .before .settings-fits .ensures) (five .if5 .left) (six .before .settings-of .ensures) in
-    let drawn = c .before .before .before .before .before .before .before .before .before .before .draw .ensures in
-    draw-told o t (a .mem .now) (a .line .now) (a .report .now) good (six .if6 .left) _ _ _ _ (sym (ap drawTold (c .before .before .before .before .before .before .told .given .1)) ∙ drawn .0) refl (drawn .1) (c .before .before .lay .ensures)
+    let told = c .before .before .before .before .before .before in
+    let drawn = told .before .before .before .before in
+    let six = drawn .before .before in
+    let p = six .before in
+    let a = entry p .args in
+    let answer = sym (ap drawTold (told .told .given .1)) ∙ drawn .draw .ensures .0 in
+    draw-told (board-there p) (settings-there p) (a .mem .now) (a .line .now) (a .report .now) (good-there p) (six .if6 .left) _ _ _ _ answer refl (drawn .draw .ensures .1) (c .before .before .lay .ensures)
 
 same-length-3 : tie.Need-same-length-3
 same-length-3 c = search needs
 
 returns-8 : tie.Need-returns-8
 returns-8 c =
-    let six = c .before .before .before .before .before .before .before .before in
-    let five = six .before .before .before in
-    let four = five .before .before in
-    let three = four .before in
-    let two = three .before .before in
-    let one = two .before in
-    let good = sym (one .before .good-length .ensures) ∙ not-false _ (one .if1 .left) in
-    let a = one .before .before .before .before .before .before .before .args in
-    let o = on-board (two .if2 .left) (three .before .board-fits .ensures) (three .if3 .left) (six .before .before .board-of .ensures) in
-    let t = on-settings (four .if4 .left) (five .before .settings-fits .ensures) (five .if5 .left) (six .before .settings-of .ensures) in
-    let drawn = c .before .before .before .before .before .before .draw .ensures in
-    draw-told o t (a .mem .now) (a .line .now) (a .report .now) good (six .if6 .left) _ _ _ _ (sym (ap drawTold (c .before .before .told2 .given .1)) ∙ drawn .0) (c .number .ensures ∙ alone _) (drawn .1) refl
+    let told = c .before .before in
+    let drawn = told .before .before .before .before in
+    let six = drawn .before .before in
+    let p = six .before in
+    let a = entry p .args in
+    let answer = sym (ap drawTold (told .told2 .given .1)) ∙ drawn .draw .ensures .0 in
+    draw-told (board-there p) (settings-there p) (a .mem .now) (a .line .now) (a .report .now) (good-there p) (six .if6 .left) _ _ _ _ answer (c .number .ensures ∙ alone _) (drawn .draw .ensures .1) refl
 
 pub deskboard-draw-spec : {M : Type 1} → statement M
 deskboard-draw-spec =
