@@ -1,3 +1,5 @@
+#![tactic(auto)]
+
 ghost use Rattle.std.specs.Prelude.{◌≡◌, cond, eqb};
 ghost use Rattle.block.specs.Byte.{new_note};
 ghost use Rattle.blitter.specs.State.{new_blitter, inside, blank, sound_blitter, started, stopped, interrupts};

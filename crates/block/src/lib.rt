@@ -1,3 +1,5 @@
+#![tactic(auto)]
+
 ghost use Rattle.std.specs.Prelude.{◌≡◌, ◌≤◌};
 ghost use Rattle.block.specs.Block.{side_at, block_at, none_side, is_none, no_block, width_of, zoom_x, zoom_y, pattern_of, columns_of, rows_of, mode_of, next_of, dest_address, source_address};
 ghost use Rattle.block.specs.Byte.{reads_source};

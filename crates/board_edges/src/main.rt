@@ -1,4 +1,6 @@
 // The blitter at its edges: each line says what ran, what was reported and how the board stands; then cells of memory.
+#![tactic(auto)]
+
 mod blitlist;
 mod block_cases;
 mod flat;

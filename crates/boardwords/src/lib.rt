@@ -1,4 +1,6 @@
 // A board as words, and back.
+#![tactic(auto)]
+
 ghost use Rattle.std.specs.Prelude.{◌≡◌, ◌≤◌, ◌<◌, length};
 ghost use Rattle.words.specs.Words.{byte_in, half_in, laid};
 ghost use Rattle.boardwords.specs.Board.{ports_of, side_of, block_of, blitter_of, board_of, side_words, block_words, board_words, board_fits};

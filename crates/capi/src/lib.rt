@@ -1,5 +1,7 @@
 // What C and Rust call: include/deskboard.h says each call in words.
 // A call tests in the order of the refusal sheet: memory (1), its states (15), then its own, and last the room of its report (13).
+#![tactic(auto)]
+
 ghost use Rattle.std.specs.Prelude.{◌≡◌, [], length, ◌+◌, ◌*◌, ◌≤◌};
 ghost use Rattle.refusal.specs.Sheet.{number_of, outcome_told, kept};
 ghost use Rattle.vram.specs.Install.{install_answer, install_memory};

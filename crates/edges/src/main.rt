@@ -1,6 +1,8 @@
 // The cases of document 01, "At the edges", that are not starred; one case for each of its traps, where a program that fell
 // into it would print something else; each bit of a collision mask at the ends of what it stands for; a block of
 // bytes FF; and plans.
+#![tactic(auto)]
+
 mod collisions;
 mod plan_cases;
 

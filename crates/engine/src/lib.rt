@@ -1,3 +1,5 @@
+#![tactic(auto)]
+
 ghost use Rattle.std.specs.Prelude.{◌≡◌, true, ◌+◌, ◌≤◌, ◌<◌, length};
 ghost use Rattle.vram.specs.Memory.{good_length};
 ghost use Rattle.blitter.specs.State.{sound_blitter};

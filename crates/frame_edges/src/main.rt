@@ -1,5 +1,7 @@
 // The display list at its edges: lists, frames that no list gives, and boards. A case names itself; under it stands what the
 // frame's next line tells.
+#![tactic(auto)]
+
 mod list_cases;
 
 use board::Board;

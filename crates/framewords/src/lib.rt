@@ -1,4 +1,6 @@
 // A line's settings and a frame as words, and back.
+#![tactic(auto)]
+
 ghost use Rattle.std.specs.Prelude.{◌≡◌, ◌≤◌, ◌<◌, length};
 ghost use Rattle.words.specs.Words.{byte_in, half_in, laid};
 ghost use Rattle.framewords.specs.Frame.{overlay_of, map_of, look_of, settings_of, settings_words, settings_fits, frame_of, frame_words, frame_most, frame_fits};

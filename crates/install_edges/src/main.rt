@@ -1,4 +1,6 @@
 // Installing at its edges: each line says what was lent and what the call told.
+#![tactic(auto)]
+
 use refusal::Outcome;
 
 // Installs the list and prints what was told.

@@ -1,6 +1,6 @@
 -- The fields of a sound item, each within its range. Assumes nothing.
 use mathlib.Core.Path.{◌≡◌, refl, sym, ap, ◌∙◌}
-use mathlib.Core.Bool.{Bool, true, ◌&&◌, and_true, and_assoc}
+use mathlib.Core.Bool.{Bool, true, ◌&&◌, and-true, and_assoc}
 use mathlib.Core.List.{List, [], ◌∷◌}
 use Prim.Native.Nat.{ℕ, zero, suc, ◌≤◌}
 use native.Mathlib.Omega.{arith}
@@ -52,7 +52,7 @@ ends_in t value zero high = simp leb-zero
 ends_in t value (suc k) high = and_assoc t (leb (suc k) value) (leb value high)
 
 joined_all : (t : Bool) (l : List Range) → joined t l ≡ t && all_in l
-joined_all t [] = sym (and_true t)
+joined_all t [] = sym (and-true t)
 joined_all t (r ∷ l) =
     joined_all (ends t r.value r.low r.high) l
     ∙ (ap (λ (u : Bool). u && all_in l) (ends_in t r.value r.low r.high) ∙ and_assoc t (in_range r) (all_in l))

@@ -1,3 +1,5 @@
+#![tactic(auto)]
+
 ghost use Rattle.std.specs.Prelude.{◌≡◌, ◌+◌, ◌-◌, ◌≤◌, length};
 ghost use Rattle.item.specs.Item.{number2, number3, full_at, running_at, sound_full, sound_running, sound_item, lines_of, is_full, body_size, body_at, fitted, item_told, item_answer, known_at};
 

@@ -1,1 +1,2 @@
 // Laws that know nothing of a board, for the crates above. There is no code here.
+#![tactic(auto)]

@@ -1,7 +1,7 @@
 -- What a collision mask says of the range that a colour is in. Assumes nothing.
 use mathlib.Core.Path.{◌≡◌, refl, sym, ap, subst, ◌∙◌}
 use mathlib.Core.Logic.{◌⊎◌, inl, inr}
-use mathlib.Core.Bool.{true, false, not, ◌&&◌, and-false, and_true}
+use mathlib.Core.Bool.{true, false, not, ◌&&◌, and-false, and-true}
 use Prim.Native.Nat.{ℕ, zero, suc, ◌+◌, ◌*◌, ◌-◌, ◌/◌, ◌%◌, ◌^◌, ◌<◌}
 use native.Mathlib.Nat.{mod-lt, zero-div, zero-mul}
 use lib.Pow.{pow_pos, pow-add}
@@ -71,4 +71,4 @@ none_met colours s d = rw (no_bit (d / colours), and-false (not (eqb s 0) && not
 
 -- and every colour but 0 where it is 255
 pub all_met : (colours s d : ℕ) → (s ≡ 0 → ⊥) → d / colours < 8 → hits colours 255 s d ≡ not (eqb d 0)
-all_met colours s d n h = met colours 255 s d n ∙ rw (every_bit (d / colours) h, and_true (not (eqb d 0)))
+all_met colours s d n h = met colours 255 s d n ∙ rw (every_bit (d / colours) h, and-true (not (eqb d 0)))

@@ -1,3 +1,5 @@
+#![tactic(auto)]
+
 ghost use Rattle.std.specs.Prelude.{◌≡◌, not, ◌&&◌, ◌⊎◌, ◌/◌, ◌<◌, eqb};
 ghost use Rattle.laws.specs.Bit.{bit};
 ghost use Rattle.mode.specs.Mode.{over_nibble, over, value_in, writes_in, cost_in, accesses_in, hits, code_by, code_nibbles, code_in, stroke_of};

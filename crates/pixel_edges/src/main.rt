@@ -1,5 +1,7 @@
 // One overlay line at its edges. A case names itself; under it stand the line's first sixteen pixels, its last four, and whether the
 // entries behind them are as before. The lent line is 680 sevens.
+#![tactic(auto)]
+
 use board::Board;
 use pixels::Drawn;
 use settings::Settings;

@@ -1,4 +1,6 @@
 // One overlay line, drawn as pixels (document 02, A5). It knows neither frames nor plans.
+#![tactic(auto)]
+
 mod fills;
 mod text;
 

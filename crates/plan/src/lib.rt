@@ -1,3 +1,5 @@
+#![tactic(auto)]
+
 ghost use Rattle.std.specs.Prelude.{◌≡◌, true, ◌++◌, ◌≤◌, length, drop};
 ghost use Rattle.item.specs.Item.{sound_full, sound_running, sound_item};
 ghost use Rattle.plan.specs.Plan.{good, parse, items_of};

@@ -13,6 +13,8 @@
 //                       counter starts at 13 mod 4
 //   starts_held.plan    F(3, off, 9, step 7, vscroll 5, map off, its vscroll 9, fields 8 by 4) F(2, SR, 5, step 7, vscroll 3, map off, its
 //                       vscroll 10, fields 8 by 4): the counters hold where they start
+#![tactic(auto)]
+
 mod number;
 
 use boardtext::lines;

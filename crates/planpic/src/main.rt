@@ -1,5 +1,7 @@
 // What a plan shows of a memory, as a picture. The plan's list goes to the end of memory, is pointed at and switched on; the 240 lines of its
 // frame are drawn and written as they come.
+#![tactic(auto)]
+
 mod picture;
 
 use plantext::files;

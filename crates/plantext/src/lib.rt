@@ -1,4 +1,6 @@
 // A plan in, its display list out: as text, or its bytes.
+#![tactic(auto)]
+
 pub mod files;
 
 ghost use Rattle.std.specs.Prelude.{◌≡◌, ◌++◌, ◌*◌, ◌≤◌, ◌<◌, length, drop};

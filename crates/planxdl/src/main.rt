@@ -1,4 +1,6 @@
 // Plans, on standard input or in files, and their display lists on standard output, as text or as bytes.
+#![tactic(auto)]
+
 use plantext::files;
 
 fn usage(fd: i32) {

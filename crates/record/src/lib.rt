@@ -1,3 +1,5 @@
+#![tactic(auto)]
+
 ghost use Rattle.std.specs.Prelude.{◌≡◌, cond, ◌%◌};
 ghost use Rattle.record.specs.Record.{
   pixel_mode,

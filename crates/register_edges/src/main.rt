@@ -1,4 +1,6 @@
 // The registers at their edges, reset, and boards that are unsound: each line says what was done, what was told and how the board stands.
+#![tactic(auto)]
+
 use block::Block;
 use board::{Board, ReadReport};
 use boardtext::show;

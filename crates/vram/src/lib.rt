@@ -1,3 +1,5 @@
+#![tactic(auto)]
+
 ghost use Rattle.std.specs.Prelude.{◌≡◌, ◌+◌, ◌≤◌, ◌<◌, length};
 ghost use Rattle.refusal.specs.Sheet.{outcome_told};
 ghost use Rattle.vram.specs.Memory.{good_length, byte_at, number12, number19};

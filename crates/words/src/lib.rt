@@ -1,4 +1,6 @@
 // A lent buffer of words: whether the words fit, and words laid over it.
+#![tactic(auto)]
+
 ghost use Rattle.std.specs.Prelude.{◌≡◌, min, length};
 ghost use Rattle.words.specs.Words.{within, laid};
 
