@@ -9,7 +9,7 @@ use vram::Vram;
 
 // The blitter between two ticks: the interrupt's enable and request, the list address, the flags
 // (0 idle, 1 BCB_LOAD, 2 BUSY), what collisions left, the block being done, and the position in it.
-#[derive(Drop)]
+#[derive(Clone, Copy)]
 pub struct Blitter {
     pub irqe: bool,
     pub irqf: bool,

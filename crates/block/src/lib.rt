@@ -8,7 +8,7 @@ use step::Side;
 
 // The 21 bytes of a block, as read: the source's side, the destination's, and nine bytes.
 // Unused bits stay where they are and count for nothing.
-#[derive(Drop)]
+#[derive(Clone, Copy)]
 pub struct Block {
     pub source: Side,
     pub dest: Side,
@@ -24,13 +24,13 @@ pub struct Block {
 }
 
 // What the bytes of a block leave of collisions: the code of the last.
-#[derive(Drop)]
+#[derive(Clone, Copy)]
 pub struct Note {
     pub code: u8,
 }
 
 // What one destination byte leaves beside memory: the note after it, and its accesses.
-#[derive(Drop)]
+#[derive(Clone, Copy)]
 pub struct Struck {
     pub note: Note,
     pub accesses: u8,

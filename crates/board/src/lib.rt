@@ -12,7 +12,7 @@ use refusal::{Outcome, Refusal};
 use vram::Vram;
 
 // The registers that are only written to: VIDEO_CONTROL, XDL_ADR, BL_ADR, P0 to P3.
-#[derive(Drop)]
+#[derive(Clone, Copy)]
 pub struct Ports {
     pub video: u8,
     pub xdladr: u32,
@@ -24,28 +24,28 @@ pub struct Ports {
 }
 
 // The desk board. Video memory is lent to each call that needs it.
-#[derive(Drop)]
+#[derive(Clone, Copy)]
 pub struct Board {
     pub ports: Ports,
     pub blitter: Blitter,
 }
 
 // The board after a write or a reset, and whether it was done.
-#[derive(Drop)]
+#[derive(Clone, Copy)]
 pub struct Changed {
     pub board: Board,
     pub report: Outcome,
 }
 
 // What reading a register gives.
-#[derive(Drop)]
+#[derive(Clone, Copy)]
 pub enum ReadReport {
     Byte(u8),
     Refused(Refusal),
 }
 
 // The board after a run, and what is reported.
-#[derive(Drop)]
+#[derive(Clone, Copy)]
 pub struct Ran {
     pub board: Board,
     pub report: RunReport,

@@ -7,7 +7,7 @@ use settings::Settings;
 
 // What is printed so far: up to the frame's line, but for the lines since `from`, which are all alike. `list` is where the plan's
 // first record is, or NO_RECORD where the list is no plan's.
-#[derive(Drop)]
+#[derive(Clone, Copy)]
 struct Run {
     frame: Frame,
     from: u16,
@@ -15,7 +15,7 @@ struct Run {
 }
 
 // What is printed so far, and the line before; `list` as above.
-#[derive(Drop)]
+#[derive(Clone, Copy)]
 struct Sample {
     frame: Frame,
     before: Settings,

@@ -13,7 +13,7 @@ use refusal::Refusal;
 use stretch::{Stretch, flat};
 
 // What a run reports: ticks done and accesses made, or why it is refused.
-#[derive(Drop)]
+#[derive(Clone, Copy)]
 pub enum RunReport {
     Ran { ticks: u32, accesses: u32 },
     Refused(Refusal),
@@ -25,14 +25,14 @@ impl RunReport {
 }
 
 // The blitter after a run, and what is reported.
-#[derive(Drop)]
+#[derive(Clone, Copy)]
 pub struct BlitterRan {
     pub blitter: Blitter,
     pub report: RunReport,
 }
 
 // A run so far, beside memory.
-#[derive(Drop)]
+#[derive(Clone, Copy)]
 struct Sofar {
     blitter: Blitter,
     ticks: u32,
@@ -41,7 +41,7 @@ struct Sofar {
 
 // A place in a block: its row and column, how far it is down and across in the rows and columns that show
 // one source byte, and the row and column of that byte. Kept from stretch to stretch, so that none divides.
-#[derive(Drop)]
+#[derive(Clone, Copy)]
 struct Place {
     row: u32,
     col: u32,

@@ -20,7 +20,7 @@ use vram::{Vram, good_length};
 
 // A frame: the reader of its display list, with the settings of the line; how many lines were given; whether
 // the display list is switched on.
-#[derive(Drop)]
+#[derive(Clone, Copy)]
 pub struct Frame {
     pub reader: Reader,
     pub line: u16,
@@ -28,21 +28,21 @@ pub struct Frame {
 }
 
 // What a line tells: its settings, or why it is refused.
-#[derive(Drop)]
+#[derive(Clone, Copy)]
 pub enum LineReport {
     Line(Settings),
     Refused(Refusal),
 }
 
 // The frame after a line, and what the line told.
-#[derive(Drop)]
+#[derive(Clone, Copy)]
 pub struct NextLine {
     pub frame: Frame,
     pub report: LineReport,
 }
 
 // What frame start gives: a frame, or why it is refused.
-#[derive(Drop)]
+#[derive(Clone, Copy)]
 pub enum FrameStart {
     Started(Frame),
     Refused(Refusal),

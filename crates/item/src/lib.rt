@@ -6,7 +6,7 @@ ghost use Rattle.item.specs.Item.{number2, number3, full_at, running_at, sound_f
 use refusal::Refusal;
 
 // Kind 1, a full band, field by field as the plan has it.
-#[derive(Drop)]
+#[derive(Clone, Copy)]
 pub struct Full {
     pub lines: u8,
     pub mode: u8,
@@ -28,7 +28,7 @@ pub struct Full {
 }
 
 // Kind 2, running on: all else runs on from above.
-#[derive(Drop)]
+#[derive(Clone, Copy)]
 pub struct Running {
     pub lines: u8,
     pub hscroll: u8,
@@ -40,7 +40,7 @@ pub struct Running {
 }
 
 // One item of a plan.
-#[derive(Drop)]
+#[derive(Clone, Copy)]
 pub enum Item {
     Full(Full),
     Running(Running),
@@ -55,7 +55,7 @@ impl Item {
 }
 
 // What stands at a place of a plan: an item and where the next begins, or why it is refused.
-#[derive(Drop)]
+#[derive(Clone, Copy)]
 pub enum Read {
     Is(Item, usize),
     Bad(Refusal),

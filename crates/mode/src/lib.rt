@@ -6,7 +6,7 @@ ghost use Rattle.mode.specs.Mode.{over_nibble, over, value_in, writes_in, cost_i
 
 // What one destination byte comes to: whether it is written and with what, the collision code after it,
 // and the accesses to the destination.
-#[derive(Drop)]
+#[derive(Clone, Copy)]
 pub struct Stroke {
     pub written: bool,
     pub value: u8,

@@ -10,7 +10,7 @@ use settings::further;
 use vram::byte_at;
 
 // A pixel before palette and flags: its colour, and whether it is clear, that is transparent while no_trans is 0.
-#[derive(Drop)]
+#[derive(Clone, Copy)]
 pub struct Dot {
     pub colour: u8,
     pub clear: bool,

@@ -18,7 +18,7 @@ use settings::Settings;
 use vram::good_length;
 
 // What drawing tells: the number of pixels, or why it is refused.
-#[derive(Drop)]
+#[derive(Clone, Copy)]
 pub enum Drawn {
     Pixels(u16),
     Refused(Refusal),

@@ -7,7 +7,7 @@ ghost use Rattle.pixels.specs.Fills.{inks_of, ink_of, background_of, lit_table, 
 use super::fills::{Dot, TRANSPARENT, no_trans, shade, trans15};
 
 // What a character shows on one font line: the line's bits, and the entries of its pixels that are set and that are not.
-#[derive(Drop)]
+#[derive(Clone, Copy)]
 pub struct Glyph {
     pub bits: u8,
     pub set: u16,
@@ -15,7 +15,7 @@ pub struct Glyph {
 }
 
 // What a line is coloured by, worked out once: its palette, the entry of a background without a colour, and whether trans15 hides colours.
-#[derive(Drop)]
+#[derive(Clone, Copy)]
 pub struct Inks {
     pub palette: u8,
     pub bare: u16,

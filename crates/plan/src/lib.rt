@@ -10,7 +10,7 @@ use item::{Full, Item, Read, Running};
 use refusal::Refusal;
 
 // What compiling tells: the number of bytes, or why it is refused and at which item.
-#[derive(Drop)]
+#[derive(Clone, Copy)]
 pub enum Compiled {
     Done(usize),
     Refused(Refusal, u32),

@@ -26,7 +26,7 @@ use refusal::Outcome;
 const TOP: u32 = 524280;
 
 // Which lines are printed: as many as show each band, or so many from one on.
-#[derive(Drop)]
+#[derive(Clone, Copy)]
 enum View {
     Bands,
     Lines { from: u16, count: u16 },

@@ -5,7 +5,7 @@ use pixels::Drawn;
 use settings::Settings;
 
 // A point of the picture.
-#[derive(Drop)]
+#[derive(Clone, Copy)]
 struct Point {
     red: u8,
     green: u8,

@@ -3,7 +3,7 @@
 ghost use Rattle.io.specs.Counts.{IsPrefixLen};
 
 // What came of an input: how many bytes, and whether it could not be read.
-#[derive(Drop)]
+#[derive(Clone, Copy)]
 pub struct Got {
     pub bytes: usize,
     pub failed: bool,

@@ -4,7 +4,7 @@ ghost use Rattle.std.specs.Prelude.{◌≡◌};
 ghost use Rattle.refusal.specs.Sheet.{number_of};
 
 // The refusal sheet: why a call was refused. The names are document 01's; Short, of document 02, is ours.
-#[derive(Drop)]
+#[derive(Clone, Copy)]
 pub enum Refusal {
     Board,
     Budget,
@@ -24,7 +24,7 @@ pub enum Refusal {
 }
 
 // What a call tells that has nothing else to report: it is done, or why it is refused.
-#[derive(Drop)]
+#[derive(Clone, Copy)]
 pub enum Outcome {
     Done,
     Refused(Refusal),

@@ -6,7 +6,7 @@ ghost use Rattle.step.specs.Step.{signed, step_x, step_y, wrap19, side_address, 
 
 // The source's or the destination's six bytes of a block, as the manual orders them:
 // the address, the step in y, the step in x.
-#[derive(Drop)]
+#[derive(Clone, Copy)]
 pub struct Side {
     pub adr0: u8,
     pub adr1: u8,

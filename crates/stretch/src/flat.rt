@@ -12,7 +12,7 @@ use crate::{Drawn, Stretch, index};
 use block::{Block, Note};
 
 // What was drawn of a stretch: so many of its bytes, and what they leave beside memory.
-#[derive(Drop)]
+#[derive(Clone, Copy)]
 pub struct Part {
     pub count: u32,
     pub note: Note,

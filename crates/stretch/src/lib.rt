@@ -14,7 +14,7 @@ use mode::Stroke;
 
 // A stretch of a block's bytes: so many, one after the other, whose source and destination go on by fixed
 // steps. Addresses and steps are counted without wrapping; an access wraps them.
-#[derive(Drop)]
+#[derive(Clone, Copy)]
 pub struct Stretch {
     pub from: u32,
     pub along: u32,
@@ -24,7 +24,7 @@ pub struct Stretch {
 }
 
 // What a stretch leaves beside memory: the note of collisions after it, and its accesses.
-#[derive(Drop)]
+#[derive(Clone, Copy)]
 pub struct Drawn {
     pub note: Note,
     pub accesses: u32,

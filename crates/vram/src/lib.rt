@@ -8,7 +8,7 @@ ghost use Rattle.vram.specs.Install.{poured, install_answer, install_memory};
 use refusal::{Outcome, Refusal};
 
 // Video memory is a lent slice and has no type of its own: its limits stand here.
-#[derive(Drop)]
+#[derive(Clone, Copy)]
 pub struct Vram {}
 
 impl Vram {

@@ -1,0 +1,6 @@
+-- `Blitter::inside` meets its contract. Assumes nothing.
+use borrow.Author.Rules.{rules}
+use Rattle.blitter.proofs.Blitter.inside.Goals as goal
+
+pub returns : goal.returns
+returns c = simp (c.rows.ensures, c.columns.ensures)

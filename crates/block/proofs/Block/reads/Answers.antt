@@ -1,0 +1,8 @@
+-- `block::Block::reads` meets its contract. Assumes nothing.
+use Rattle.block.specs.Byte.{reads_source}
+use borrow.Author.Rules.{rules}
+use Rattle.block.proofs.Block.reads.Goals as goal
+
+pub returns : goal.returns
+unfolding reads_source
+returns c = rw c.mode.ensures

@@ -1,0 +1,13 @@
+-- `record::Reader::scroll_group` meets its contract, by OVSCRL. Assumes nothing.
+use borrow.Author.Tests.{ne_eqb}
+use Rattle.record.specs.Record.{scroll_group}
+use borrow.Author.Rules.{rules}
+use Rattle.record.proofs.Reader.scroll_group.Goals as goal
+
+pub returns-then-c-eq1 : goal.returns-then-c-eq1
+unfolding scroll_group
+returns-then-c-eq1 c = simp (c.if-c-eq1.true, c.byte_at-hscroll.ensures, c.byte_at-vscroll.ensures, c.further.ensures)
+
+pub returns-else-c-eq1 : goal.returns-else-c-eq1
+unfolding scroll_group
+returns-else-c-eq1 c = simp (ne_eqb _ _ c.if-c-eq1.false)

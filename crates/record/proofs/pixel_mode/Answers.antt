@@ -1,0 +1,15 @@
+-- `record::pixel_mode` meets its contract, a case of HR and LR at each return. Assumes nothing.
+use borrow.Author.Tests.{ne_eqb}
+use Rattle.record.proofs.pixel_mode.Goals as goal
+
+pub returns-in-0 : goal.returns-in-0
+returns-in-0 c = simp c.in-0.is
+
+pub returns-in-1 : goal.returns-in-1
+returns-in-1 c = simp c.in-1.is
+
+pub returns-in-2 : goal.returns-in-2
+returns-in-2 c = simp c.in-2.is
+
+pub returns-in_default : goal.returns-in_default
+returns-in_default c = let r = c.in_default.in_default-own.rest in simp (ne_eqb _ _ r.0.0.1, ne_eqb _ _ r.0.1, ne_eqb _ _ r.1)
