@@ -50,6 +50,17 @@ fn end_bit(last: bool) -> u8
     if last { 128 } else { 0 }
 }
 
+// Bytes laid at the start of what is lent; how many they are.
+fn copy(bytes: &[u8], out: &mut [u8]) -> usize
+    requires { length bytes.now ≤ length out.old }
+    ensures count { result ≡ length bytes.now }
+    ensures laid { out.new ≡ bytes.now ++ drop (length bytes.now) out.old }
+{
+    let n = bytes.len();
+    out[..n].copy_from_slice(bytes);
+    n
+}
+
 // A kind 1 record: all seven data groups, in the manual's fetch order.
 fn write_full(out: &mut [u8], b: Full, last: bool) -> usize
     requires { (22 ≤ length out.old) × (sound_full b ≡ true) }
@@ -79,7 +90,7 @@ fn write_full(out: &mut [u8], b: Full, last: bool) -> usize
         b.width + 16 * b.palettes,
         b.priority,
     ];
-    bytes::copy(&bytes, out)
+    copy(&bytes, out)
 }
 
 // A kind 2 record: RPTL, OVSCRL, CHBASE and OVATT.
@@ -97,7 +108,7 @@ fn write_running(out: &mut [u8], b: Running, last: bool) -> usize
         b.width + 16 * b.palettes,
         b.priority,
     ];
-    bytes::copy(&bytes, out)
+    copy(&bytes, out)
 }
 
 // The item's record at the start of what is lent; how many bytes it has.

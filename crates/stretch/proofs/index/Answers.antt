@@ -1,17 +1,13 @@
 -- `stretch::index` meets its contract: a board's length less one is a mask, and no wrap at 524,288 is needed first. Assumes nothing.
 use mathlib.Core.Path.{sym, ◌∙◌}
 use Rattle.vram.proofs.Length.{good, wrap, one_some, mask_is, mask_under}
-use Rattle.stretch.proofs.index.Statement.{statement}
-use Rattle.stretch.proofs.index.Tie as tie
+use Rattle.stretch.proofs.index.Goals as goal
 
-sub-result : tie.Need-overflow-sub-result
-sub-result c = one_some _ (good _ c.requires).one
+pub overflow_sub-result : goal.overflow_sub-result
+overflow_sub-result c = one_some _ (good _ c.requires).one
 
-returns : tie.Need-returns
+pub returns : goal.returns
 returns c =
     let a = c.args in
     let one = (good a.n c.requires).one in
     (mask_is a.n a.address one ∙ sym (wrap a.n c.requires a.address), mask_under a.n a.address one)
-
-pub index-spec : {M : Type 1} → statement M
-index-spec = tie.close (tie.spec sub-result returns)
