@@ -6,19 +6,6 @@ use Rattle.stretch.proofs.Strokes.{Filling, Reached, reach, reached_on, reached_
 use Rattle.stretch.proofs.Single.{fill_is}
 use Rattle.stretch.proofs.fill.Goals as goal
 
--- a turn of the loop, when its byte is put
-abbrev Turn : Type 0
-Turn = goal.After-slice_known-in-loop-k-1 decreases-loop
-
-abbrev at-loop : Turn → goal.At-loop-k
-at-loop c = c.before.before.before.before.before
-
-abbrev in-loop : Turn → goal.In-loop-k
-in-loop c = c.before.before.before.before
-
-abbrev entry : Turn → goal.Start
-entry c = (at-loop c).before.before.before.before.before
-
 pub loop-k-init : goal.loop-k-init
 loop-k-init c =
     let wide = c.struct_known-3-1.given in
@@ -28,22 +15,22 @@ pub put-requires : goal.put-requires
 put-requires c = fit (c.loop-k.invariant.0 0 0).1
 
 pub overflow_add-made : goal.overflow_add-made
-overflow_add-made c = record { fits = made_fits ((at-loop c).loop.invariant.0 0 0).1 (in-loop c).loop-test.true (omega arith) }
+overflow_add-made c = record { fits = made_fits (c.loop-k.invariant.0 0 0).1 c.loop-k-test.true (omega arith) }
 
 pub overflow_add-to : goal.overflow_add-to
-overflow_add-to c = record { fits = reached_fits (at-loop c).loop.invariant.1 (count_fits ((at-loop c).loop.invariant.0 0 0).1 (in-loop c).loop-test.true) }
+overflow_add-to c = record { fits = reached_fits c.loop-k.invariant.1 (count_fits (c.loop-k.invariant.0 0 0).1 c.loop-k-test.true) }
 
 pub overflow_add-k : goal.overflow_add-k
-overflow_add-k c = record { fits = omega (arith, count_fits ((at-loop c).loop.invariant.0 0 0).1 (in-loop c).loop-test.true) }
+overflow_add-k c = record { fits = omega (arith, count_fits (c.loop-k.invariant.0 0 0).1 c.loop-k-test.true) }
 
 pub loop-k-smaller : goal.loop-k-smaller
-loop-k-smaller c = omega (arith, (in-loop c).loop-test.true)
+loop-k-smaller c = omega (arith, c.loop-k-test.true)
 
 pub loop-k-preserved : goal.loop-k-preserved
 loop-k-preserved c =
-    let p = (entry c).requires in
+    let p = c.requires in
     rw c.put.ensures
-    (λ along from. (_, on ((at-loop c).loop.invariant.0 along from).1 (in-loop c).loop-test.true (fill_is _ _ _ _ _ _ p.1 p.2)), reached_on (at-loop c).loop.invariant.1)
+    (λ along from. (_, on (c.loop-k.invariant.0 along from).1 c.loop-k-test.true (fill_is _ _ _ _ _ _ p.1 p.2)), reached_on c.loop-k.invariant.1)
 
 pub shape_of-mem : goal.shape_of-mem
 shape_of-mem c = (c.loop-k.invariant.0 0 0).1.long
