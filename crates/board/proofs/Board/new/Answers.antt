@@ -1,0 +1,6 @@
+-- `Board::new` meets its contract. Assumes nothing.
+use borrow.Author.Rules.{rules}
+use Rattle.board.proofs.Board.new.Goals as goal
+
+pub returns : goal.returns
+returns c = simp (c.new-ports.ensures, c.new-blitter.ensures)

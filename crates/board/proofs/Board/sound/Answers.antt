@@ -1,0 +1,8 @@
+-- `Board::sound` meets its contract. Assumes nothing.
+use Rattle.board.specs.Board.{sound_board}
+use borrow.Author.Rules.{rules}
+use Rattle.board.proofs.Board.sound.Goals as goal
+
+pub returns : goal.returns
+unfolding sound_board
+returns c = simp (c.sound.ensures, c.sound-2.ensures)
