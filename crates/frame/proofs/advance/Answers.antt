@@ -1,0 +1,6 @@
+-- `frame::advance` meets its contract: the settings advance as they promise. Assumes nothing.
+use borrow.Author.Rules.{rules}
+use Rattle.frame.proofs.advance.Goals as goal
+
+pub returns : goal.returns
+returns c = simp c.advance-reader.ensures
