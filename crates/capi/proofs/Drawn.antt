@@ -48,7 +48,7 @@ module _ {board settings : List ℕ} {b : Board} {s : Settings} (o : OnBoard boa
       let c = draw_passed told e ∙ roomy 1 report told h in
       let kept-so = p ∙ kept_twice (draw_answer b s mem (length line)) line _ ∙ ap (λ (x : Told ℕ). kept x line (draw_output b s mem line)) (sym e) in
       let same = ap₂ (λ (x : Board) (y : Settings). draw_output x y mem line) o.is t.is in
-      (as_number call told c k n, (as_change call told c line _ _ now same kept-so, as_report call told c _ report counts r))
+      (as_number call told c k n, (as_change call told c line _ _ now same kept-so, as_report call told c (λ n. n ∷ []) report counts r))
 
   -- the count has no room
   module _ (h : length report < 1) where
@@ -61,7 +61,7 @@ module _ {board settings : List ℕ} {b : Board} {s : Settings} (o : OnBoard boa
         let call = draw_call board settings mem (length line) report in
         let told = draw_answer b s mem (length line) in
         let e = draw_passed told refl in
-        (as_number call _ (e ∙ no_report told) k n, (short_change 1 report h call told e line _, short_report 1 report h call told e _ report))
+        (as_number call _ (e ∙ no_report told) k n, (short_change 1 report h call told e line _, short_report 1 report h call told e (λ n. n ∷ []) report))
 
 -- what is told of a line of 672 entries, for one of another length and no report
 module _ (b : Board) (s : Settings) (mem : List ℕ) (room : ℕ) where

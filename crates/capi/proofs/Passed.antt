@@ -1,7 +1,7 @@
 -- A call whose lent words are enough and fit, on memory of a good length, goes by the board's, the frame's or the plan's own answer, and then by its report's room. Assumes nothing.
 use mathlib.Core.Path.{◌≡◌, refl, sym, ap, ◌∙◌}
 use mathlib.Core.Bool.{Bool, true, false, not}
-use mathlib.Core.List.{List}
+use mathlib.Core.List.{List, [], ◌∷◌}
 use Prim.Native.Nat.{ℕ, ◌≤◌, ◌<◌}
 use lib.Dec.{leb}
 use lib.ListN.{length}
@@ -212,4 +212,4 @@ module _ (plan out report : List ℕ) where
     compile_short k n =
         let told = compile_answer plan (length out) in
         let e : reportable 1 report told ≡ compile_answer plan 0 = as_roomless told ∙ sym (no_room plan (length out)) in
-        (as_number _ _ e k n, (short_change 1 report h _ told refl out _, short_report 1 report h _ told refl _ report))
+        (as_number _ _ e k n, (short_change 1 report h _ told refl out _, short_report 1 report h _ told refl (λ n. n ∷ []) report))
