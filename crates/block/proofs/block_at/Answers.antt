@@ -1,6 +1,5 @@
 -- `block::block_at` meets its contract. Assumes nothing.
 use Rattle.block.specs.Block.{block_at}
-use borrow.Author.Rules.{rules}
 use Rattle.block.proofs.block_at.Goals as goal
 
 pub returns : goal.returns

@@ -1,6 +1,5 @@
 -- `block::side_at` meets its contract. Assumes nothing.
 use Rattle.block.specs.Block.{side_at}
-use borrow.Author.Rules.{rules}
 use Rattle.block.proofs.side_at.Goals as goal
 
 pub returns : goal.returns

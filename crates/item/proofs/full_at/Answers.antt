@@ -1,5 +1,4 @@
 -- `item::full_at` meets its contract: the four wider numbers as the calls read them, the rest byte by byte. Assumes nothing.
-use borrow.Author.Rules.{rules}
 use Rattle.item.specs.Item.{full_at}
 use Rattle.item.proofs.full_at.Goals as goal
 

@@ -1,6 +1,5 @@
 -- `item::lines_of` meets its contract, kind by kind. Assumes nothing.
 use mathlib.Core.Path.{sym, ap}
-use borrow.Author.Rules.{rules}
 use Rattle.item.specs.Item.{lines_of}
 use Rattle.item.proofs.lines_of.Goals as goal
 

@@ -1,7 +1,6 @@
 -- `item::number_2` meets its contract: a byte is below 256, so nothing overflows. Assumes nothing.
 use Prim.Native.Nat.{◌+◌}
 use native.Mathlib.Omega.{arith}
-use borrow.Author.Rules.{rules}
 use Rattle.item.proofs.number_2.Goals as goal
 
 pub overflow_cast-result : goal.overflow_cast-result

@@ -1,7 +1,6 @@
 -- `item::number_3` meets its contract: a byte is below 256, so nothing overflows. Assumes nothing.
 use Prim.Native.Nat.{◌+◌}
 use native.Mathlib.Omega.{arith}
-use borrow.Author.Rules.{rules}
 use Rattle.item.proofs.number_3.Goals as goal
 
 pub overflow_cast-result-2 : goal.overflow_cast-result-2

@@ -1,6 +1,5 @@
 -- `item::running_at` meets its contract. Assumes nothing.
 use mathlib.Core.Path.{refl}
-use borrow.Author.Rules.{rules}
 use Rattle.item.specs.Item.{running_at}
 use Rattle.item.proofs.running_at.Goals as goal
 

@@ -1,5 +1,4 @@
 -- `item::sound_item` meets its contract, kind by kind. Assumes nothing.
-use borrow.Author.Rules.{rules}
 use Rattle.item.proofs.sound_item.Goals as goal
 
 pub returns-in-Full : goal.returns-in-Full

@@ -1,7 +1,6 @@
 -- `mode::accesses` meets its contract. Assumes nothing.
 use mathlib.Core.Path.{sym, ◌∙◌}
 use Rattle.mode.specs.Mode.{accesses_in}
-use borrow.Author.Rules.{rules}
 use Rattle.mode.proofs.accesses.Goals as goal
 
 pub returns-then-writes : goal.returns-then-writes

@@ -1,7 +1,6 @@
 -- `mode::code_by` meets its contract. Assumes nothing.
 use mathlib.Core.Path.{sym, ◌∙◌}
 use Rattle.mode.specs.Mode.{code_by}
-use borrow.Author.Rules.{rules}
 use Rattle.mode.proofs.code_by.Goals as goal
 
 pub returns-then-hit : goal.returns-then-hit

@@ -4,7 +4,6 @@ use mathlib.Core.Logic.{inl}
 use lib.ListN.{get_or-eq_default}
 use Rattle.mode.specs.Mode.{code_in, code_byte}
 use Rattle.mode.proofs.Rest.{past7}
-use borrow.Author.Rules.{rules}
 use Rattle.mode.proofs.code_in.Goals as goal
 
 pub code_by-requires : goal.code_by-requires

@@ -2,7 +2,6 @@
 use lib.ListN.{get_or-eq_default}
 use Rattle.mode.specs.Mode.{cost_in}
 use Rattle.mode.proofs.Rest.{past7}
-use borrow.Author.Rules.{rules}
 use Rattle.mode.proofs.cost.Goals as goal
 
 pub returns-in-0 : goal.returns-in-0

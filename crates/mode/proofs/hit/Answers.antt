@@ -1,7 +1,6 @@
 -- `mode::hit` meets its contract. Assumes nothing.
 use mathlib.Core.Path.{sym, ◌∙◌}
 use native.Mathlib.Omega.{arith}
-use borrow.Author.Rules.{rules}
 use Rattle.mode.specs.Mode.{hits}
 use Rattle.mode.proofs.Ranges.{eight, paired, none_met, all_met, met}
 use Rattle.mode.proofs.hit.Goals as goal

@@ -2,7 +2,6 @@
 use native.Mathlib.Omega.{arith}
 use Rattle.mode.specs.Mode.{over}
 use Rattle.mode.proofs.Laws.{over_high, over_low}
-use borrow.Author.Rules.{rules}
 use Rattle.mode.proofs.over_byte.Goals as goal
 
 pub overflow_mul-result : goal.overflow_mul-result

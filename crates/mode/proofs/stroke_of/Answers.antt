@@ -1,6 +1,5 @@
 -- `mode::stroke_of` meets its contract. Assumes nothing.
 use Rattle.mode.specs.Mode.{stroke_of}
-use borrow.Author.Rules.{rules}
 use Rattle.mode.proofs.stroke_of.Goals as goal
 
 pub returns : goal.returns

@@ -1,6 +1,5 @@
 -- `plan::compile` meets its contract: each return cites what the passes told. Assumes nothing.
 use mathlib.Core.Path.{◌≡◌, sym, ◌∙◌}
-use borrow.Author.Rules.{rules}
 use Rattle.plan.specs.Compile.{checked_of}
 use Rattle.plan.specs.Plan.{parse}
 use Rattle.plan.specs.declared.Compiled.TheVariants.{Done}

@@ -1,12 +1,9 @@
 -- `plan::write_all` meets its contract. The loop's invariant is `Writing`. Assumes nothing.
 use mathlib.Core.Path.{◌≡◌, sym, ◌∙◌}
-use Prim.Native.Nat.{◌-◌}
 use native.Mathlib.Omega.{arith}
-use lib.ListN.{length}
-use borrow.Author.Rules.{rules}
 use Rattle.item.specs.Item.{known_at}
 use Rattle.item.specs.declared.Read.TheVariants.{Is}
-use Rattle.plan.proofs.Writing.{Writing, write_start, write_never, write_taken, write_fits, write_may, write_turn, write_end}
+use Rattle.plan.proofs.Writing.{write_start, write_never, write_taken, write_fits, write_may, write_turn, write_end}
 use Rattle.plan.proofs.write_all.Goals as goal
 
 pub loop-at-init : goal.loop-at-init

@@ -1,5 +1,4 @@
 -- `plan::write_record` meets its contract, kind by kind. Assumes nothing.
-use borrow.Author.Rules.{rules}
 use Rattle.plan.proofs.write_record.Goals as goal
 
 pub write_full-requires : goal.write_full-requires

@@ -1,7 +1,6 @@
 -- `plan::write_running` meets its contract: the bytes stand in the record's order, and no field of a sound item overflows. Assumes nothing.
 use mathlib.Core.Path.{◌∙◌}
 use native.Mathlib.Omega.{arith}
-use borrow.Author.Rules.{rules}
 use Rattle.item.proofs.Ranges.{running_fits}
 use Rattle.plan.specs.Xdl.{running_record}
 use Rattle.plan.proofs.write_running.Goals as goal

@@ -1,6 +1,5 @@
 -- `record::field_width` meets its contract, below 8 and from 8 on. Assumes nothing.
 use borrow.Author.Tests.{lt-ltb, le-ltb}
-use borrow.Author.Rules.{rules}
 use Rattle.record.proofs.field_width.Goals as goal
 
 pub returns-then-w-lt7 : goal.returns-then-w-lt7

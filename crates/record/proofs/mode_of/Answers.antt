@@ -1,6 +1,5 @@
 -- `record::mode_of` meets its contract, a case of TMON, GMON and OVOFF at each return. Assumes nothing.
 use borrow.Author.Tests.{ne_eqb}
-use borrow.Author.Rules.{rules}
 use Rattle.record.proofs.mode_of.Goals as goal
 
 pub returns-then-k-eq0 : goal.returns-then-k-eq0

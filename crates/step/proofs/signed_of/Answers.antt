@@ -6,7 +6,6 @@ use lib.Signed.{mag}
 use mir.Syntax.{w32}
 use mir.ValLaws.{to_z_pos}
 use borrow.Author.Tests.{lt-ltb, le-ltb}
-use borrow.Author.Rules.{rules}
 use Rattle.laws.proofs.Signed.{mag_add, mag_neg, back}
 use Rattle.step.specs.Step.{signed}
 use Rattle.step.proofs.signed_of.Goals as goal

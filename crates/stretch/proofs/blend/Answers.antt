@@ -1,9 +1,7 @@
 -- `stretch::blend` meets its contract: the loop goes on as `Walk` says. Assumes nothing.
-use Prim.Native.Nat.{◌-◌}
 use native.Mathlib.Omega.{arith}
-use borrow.Author.Rules.{rules}
 use Rattle.stretch.proofs.Strokes.{stroke_small, both_small, fit, done}
-use Rattle.stretch.proofs.Walking.{Walk, walk, walk_made, walk_from, walk_to, walk_k, walk_stroke}
+use Rattle.stretch.proofs.Walking.{walk, walk_made, walk_from, walk_to, walk_k, walk_stroke}
 use Rattle.stretch.proofs.blend.Goals as goal
 
 pub mode-mode-requires : goal.mode-mode-requires

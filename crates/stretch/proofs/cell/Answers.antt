@@ -1,5 +1,4 @@
 -- `stretch::cell` meets its contract. Assumes nothing.
-use borrow.Author.Rules.{rules}
 use Rattle.stretch.proofs.cell.Goals as goal
 
 pub returns : goal.returns

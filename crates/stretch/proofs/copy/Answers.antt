@@ -1,9 +1,7 @@
 -- `stretch::copy` meets its contract: the loop goes on as `Walk` says. Assumes nothing.
-use Prim.Native.Nat.{◌-◌}
 use native.Mathlib.Omega.{arith}
-use borrow.Author.Rules.{rules}
 use Rattle.stretch.proofs.Strokes.{fit, done}
-use Rattle.stretch.proofs.Walking.{Walk, walk, walk_made, walk_from, walk_to, walk_k, walk_on}
+use Rattle.stretch.proofs.Walking.{walk, walk_made, walk_from, walk_to, walk_k, walk_on}
 use Rattle.stretch.proofs.Single.{copy_is}
 use Rattle.stretch.proofs.copy.Goals as goal
 

@@ -5,7 +5,6 @@ use lib.ListN.{length}
 use borrow.Author.Tests.{not-true, not-false}
 use Rattle.vram.specs.Memory.{good_length}
 use Rattle.stretch.proofs.Whole.{no_board, by_loop, by_none}
-use borrow.Author.Rules.{rules}
 use Rattle.stretch.proofs.draw.Goals as goal
 
 pub returns-then-not-good_length : goal.returns-then-not-good_length

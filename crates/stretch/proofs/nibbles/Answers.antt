@@ -1,10 +1,8 @@
 -- `stretch::nibbles` meets its contract: the loop goes on as `Walk` says. Assumes nothing.
 use mathlib.Core.Path.{sym}
-use Prim.Native.Nat.{◌-◌}
 use native.Mathlib.Omega.{arith}
-use borrow.Author.Rules.{rules}
 use Rattle.stretch.proofs.Strokes.{stroke_small, both_small, fit, done}
-use Rattle.stretch.proofs.Walking.{Walk, walk, walk_made, walk_from, walk_to, walk_k, walk_stroke}
+use Rattle.stretch.proofs.Walking.{walk, walk_made, walk_from, walk_to, walk_k, walk_stroke}
 use Rattle.stretch.proofs.Single.{under_7}
 use Rattle.stretch.proofs.nibbles.Goals as goal
 

@@ -1,5 +1,4 @@
 -- `stretch::put` meets its contract. Assumes nothing.
-use borrow.Author.Rules.{rules}
 use Rattle.stretch.proofs.put.Goals as goal
 
 pub returns : goal.returns

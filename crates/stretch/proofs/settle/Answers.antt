@@ -1,10 +1,7 @@
 -- `stretch::settle` meets its contract. Assumes nothing.
-use mathlib.Core.Path.{refl, ap, ◌∙◌}
-use mathlib.Core.Logic.{⊎_elim}
+use mathlib.Core.Path.{refl, ◌∙◌}
 use native.Mathlib.Omega.{arith}
-use lib.ListN.{length, length-set}
 use Rattle.block.specs.Byte.{reads_source}
-use borrow.Author.Rules.{rules}
 use Rattle.laws.proofs.Choice.{bool_byte_lem, bool_small}
 use Rattle.stretch.proofs.settle.Goals as goal
 use Rattle.stretch.proofs.settle.Goals.{then-stroke, else-stroke}

@@ -1,5 +1,4 @@
 -- `stretch::source` meets its contract. Assumes nothing.
-use borrow.Author.Rules.{rules}
 use Rattle.stretch.proofs.source.Goals as goal
 
 pub returns : goal.returns

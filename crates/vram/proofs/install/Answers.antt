@@ -6,7 +6,6 @@ use borrow.Author.Tests.{le-leb, lt-leb, not-true, not-false}
 use lib.ListN.{length}
 use Rattle.vram.specs.Memory.{good_length}
 use Rattle.vram.proofs.Length.{good}
-use borrow.Author.Rules.{rules}
 use Rattle.vram.proofs.install.Goals as goal
 
 pub returns-then-not-good_length : goal.returns-then-not-good_length

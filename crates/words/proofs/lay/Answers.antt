@@ -1,10 +1,9 @@
 -- `words::lay` meets its contract. The loop's invariant: i words are laid, and the others are as they were. Assumes nothing.
-use mathlib.Core.Path.{◌≡◌, refl}
-use Prim.Native.Nat.{◌-◌, ◌≤◌}
+use mathlib.Core.Path.{refl}
 use native.Mathlib.Omega.{arith}
 use borrow.Author.Tests.{lt-leb}
-use lib.ListN.{length, length-set}
-use lib.Seq.{paste, paste-zero}
+use lib.ListN.{length-set}
+use lib.Seq.{paste-zero}
 use Rattle.words.proofs.Laid.{lay_next, lay_end}
 use Rattle.words.proofs.lay.Goals as goal
 

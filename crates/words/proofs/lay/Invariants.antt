@@ -1,11 +1,8 @@
 -- `words::lay` meets its contract. The loop's invariant: i words are laid, and the others are as they were. Assumes nothing.
-use mathlib.Core.Path.{◌≡◌, refl}
+use mathlib.Core.Path.{◌≡◌}
 use Prim.Native.Nat.{◌-◌, ◌≤◌}
-use native.Mathlib.Omega.{arith}
-use borrow.Author.Tests.{lt-leb}
-use lib.ListN.{length, length-set}
-use lib.Seq.{paste, paste-zero}
-use Rattle.words.proofs.Laid.{lay_next, lay_end}
+use lib.ListN.{length}
+use lib.Seq.{paste}
 use Rattle.words.proofs.lay.Given as goal
 
 abbrev pub invariant-loop-i : goal.invariant-loop-i

@@ -1,11 +1,9 @@
 -- `words::there_within` meets its contract. The loop's invariant: the tests so far with those of the words left give what the whole was to give. Assumes nothing.
-use mathlib.Core.Path.{◌≡◌, refl}
+use mathlib.Core.Path.{◌≡◌}
 use mathlib.Core.Bool.{◌&&◌}
 use Prim.Native.Nat.{◌-◌, ◌≤◌}
-use native.Mathlib.Omega.{arith}
 use lib.ListN.{drop}
 use Rattle.words.specs.Words.{within}
-use Rattle.words.proofs.Within.{within_turn, within_end}
 use Rattle.words.proofs.there_within.Given as goal
 
 abbrev pub invariant-loop-i : goal.invariant-loop-i

@@ -1,5 +1,4 @@
 -- `Blitter::blank` meets its contract. Assumes nothing.
-use borrow.Author.Rules.{rules}
 use Rattle.blitter.proofs.Blitter.blank.Goals as goal
 
 pub returns : goal.returns

@@ -1,5 +1,4 @@
 -- `Blitter::inside` meets its contract. Assumes nothing.
-use borrow.Author.Rules.{rules}
 use Rattle.blitter.proofs.Blitter.inside.Goals as goal
 
 pub returns : goal.returns

@@ -1,5 +1,4 @@
 -- `Blitter::new` meets its contract. Assumes nothing.
-use borrow.Author.Rules.{rules}
 use Rattle.blitter.proofs.Blitter.new.Goals as goal
 
 pub returns : goal.returns

@@ -1,6 +1,5 @@
 -- `Blitter::placed` meets its contract. Assumes nothing.
 use borrow.Author.Tests.{eq-eqb, ne_eqb}
-use borrow.Author.Rules.{rules}
 use Rattle.blitter.proofs.Blitter.placed.Goals as goal
 
 pub returns-then-self-eq2 : goal.returns-then-self-eq2

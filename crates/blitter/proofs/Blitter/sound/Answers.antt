@@ -1,6 +1,5 @@
 -- `Blitter::sound` meets its contract. Assumes nothing.
 use Rattle.blitter.specs.State.{sound_blitter}
-use borrow.Author.Rules.{rules}
 use Rattle.blitter.proofs.Blitter.sound.Goals as goal
 
 pub returns : goal.returns

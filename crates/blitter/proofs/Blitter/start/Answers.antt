@@ -1,6 +1,5 @@
 -- `Blitter::start` meets its contract. Assumes nothing.
 use Rattle.blitter.specs.State.{started}
-use borrow.Author.Rules.{rules}
 use Rattle.blitter.proofs.Blitter.start.Goals as goal
 
 pub returns : goal.returns

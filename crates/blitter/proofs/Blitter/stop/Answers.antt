@@ -1,6 +1,5 @@
 -- `Blitter::stop` meets its contract. Assumes nothing.
 use Rattle.blitter.specs.State.{stopped}
-use borrow.Author.Rules.{rules}
 use Rattle.blitter.proofs.Blitter.stop.Goals as goal
 
 pub returns : goal.returns

@@ -2,7 +2,6 @@
 use native.Mathlib.Omega.{arith}
 use Rattle.block.specs.Block.{columns_of}
 use Rattle.block.proofs.Sizes.{columns_small}
-use borrow.Author.Rules.{rules}
 use Rattle.block.proofs.Block.columns.Goals as goal
 
 pub overflow_mul-result : goal.overflow_mul-result

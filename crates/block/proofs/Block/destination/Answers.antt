@@ -1,6 +1,5 @@
 -- `block::Block::destination` meets its contract. Assumes nothing.
 use Rattle.block.specs.Block.{dest_address}
-use borrow.Author.Rules.{rules}
 use Rattle.block.proofs.Block.destination.Goals as goal
 
 pub returns : goal.returns

@@ -1,6 +1,5 @@
 -- `block::Block::is_none` meets its contract. Assumes nothing.
 use Rattle.block.specs.Block.{is_none}
-use borrow.Author.Rules.{rules}
 use Rattle.block.proofs.Block.is_none.Goals as goal
 
 pub returns : goal.returns

@@ -2,7 +2,6 @@
 use Prim.Native.Nat.{◌/◌, ◌%◌}
 use borrow.Author.Tests.{eq-eqb, ne_eqb}
 use Rattle.block.specs.Block.{pattern_of}
-use borrow.Author.Rules.{rules}
 use Rattle.block.proofs.Block.pattern_width.Goals as goal
 
 pub returns-then-pattern-eq1 : goal.returns-then-pattern-eq1

@@ -1,6 +1,5 @@
 -- `block::Block::reads` meets its contract. Assumes nothing.
 use Rattle.block.specs.Byte.{reads_source}
-use borrow.Author.Rules.{rules}
 use Rattle.block.proofs.Block.reads.Goals as goal
 
 pub returns : goal.returns

@@ -2,7 +2,6 @@
 use native.Mathlib.Omega.{arith}
 use Rattle.block.specs.Block.{rows_of}
 use Rattle.block.proofs.Sizes.{rows_small}
-use borrow.Author.Rules.{rules}
 use Rattle.block.proofs.Block.rows.Goals as goal
 
 pub overflow_mul-result : goal.overflow_mul-result

@@ -2,7 +2,6 @@
 use native.Mathlib.Omega.{arith}
 use Rattle.block.specs.Block.{source_address}
 use Rattle.block.proofs.Sizes.{pattern_pos}
-use borrow.Author.Rules.{rules}
 use Rattle.block.proofs.Block.source.Goals as goal
 
 pub nonzero_rem-col : goal.nonzero_rem-col

@@ -1,7 +1,6 @@
 -- `record::Reader::address_group` meets its contract, by OVADR. Assumes nothing.
 use borrow.Author.Tests.{ne_eqb}
 use Rattle.record.specs.Record.{address_group}
-use borrow.Author.Rules.{rules}
 use Rattle.record.proofs.Reader.address_group.Goals as goal
 
 pub returns-then-c-eq1 : goal.returns-then-c-eq1

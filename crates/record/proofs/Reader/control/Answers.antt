@@ -1,6 +1,5 @@
 -- `record::Reader::control` meets its contract: mode, map and position as their functions promise. Assumes nothing.
 use Rattle.record.specs.Record.{controlled}
-use borrow.Author.Rules.{rules}
 use Rattle.record.proofs.Reader.control.Goals as goal
 
 pub returns : goal.returns

@@ -1,7 +1,6 @@
 -- `record::Reader::field_group` meets its contract, by MAPPAR. Assumes nothing.
 use borrow.Author.Tests.{ne_eqb}
 use Rattle.record.specs.Record.{field_group}
-use borrow.Author.Rules.{rules}
 use Rattle.record.proofs.Reader.field_group.Goals as goal
 
 pub returns-then-d-eq1 : goal.returns-then-d-eq1

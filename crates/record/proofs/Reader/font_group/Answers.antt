@@ -2,7 +2,6 @@
 use native.Mathlib.Nat.{div-one}
 use borrow.Author.Tests.{ne_eqb}
 use Rattle.record.specs.Record.{font_group}
-use borrow.Author.Rules.{rules}
 use Rattle.record.proofs.Reader.font_group.Goals as goal
 
 pub returns-then-d-eq1 : goal.returns-then-d-eq1

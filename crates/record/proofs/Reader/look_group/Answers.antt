@@ -1,7 +1,6 @@
 -- `record::Reader::look_group` meets its contract, by OVATT. Assumes nothing.
 use borrow.Author.Tests.{ne_eqb}
 use Rattle.record.specs.Record.{look_group}
-use borrow.Author.Rules.{rules}
 use Rattle.record.proofs.Reader.look_group.Goals as goal
 
 pub returns-then-d-eq1 : goal.returns-then-d-eq1

@@ -1,7 +1,6 @@
 -- `record::Reader::map_group` meets its contract, by MAPADR. Assumes nothing.
 use borrow.Author.Tests.{ne_eqb}
 use Rattle.record.specs.Record.{map_group}
-use borrow.Author.Rules.{rules}
 use Rattle.record.proofs.Reader.map_group.Goals as goal
 
 pub returns-then-d-eq1 : goal.returns-then-d-eq1

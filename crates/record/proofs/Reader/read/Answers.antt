@@ -1,5 +1,4 @@
 -- `record::Reader::read` meets its contract: what each call promises, put into the next. Assumes nothing.
-use borrow.Author.Rules.{rules}
 use Rattle.record.proofs.Reader.read.Goals as goal
 
 pub returns : goal.returns

@@ -1,7 +1,6 @@
 -- `record::Reader::repeat_group` meets its contract, by RPTL. Assumes nothing.
 use borrow.Author.Tests.{ne_eqb}
 use Rattle.record.specs.Record.{repeat_group}
-use borrow.Author.Rules.{rules}
 use Rattle.record.proofs.Reader.repeat_group.Goals as goal
 
 pub returns-then-c-eq1 : goal.returns-then-c-eq1

@@ -1,6 +1,5 @@
 -- `record::Reader::restart` meets its contract: each counter by its own test, from its own start. Assumes nothing.
 use Rattle.record.specs.Record.{restarted}
-use borrow.Author.Rules.{rules}
 use Rattle.record.proofs.Reader.restart.Goals as goal
 
 pub returns : goal.returns

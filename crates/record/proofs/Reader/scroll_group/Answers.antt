@@ -1,7 +1,6 @@
 -- `record::Reader::scroll_group` meets its contract, by OVSCRL. Assumes nothing.
 use borrow.Author.Tests.{ne_eqb}
 use Rattle.record.specs.Record.{scroll_group}
-use borrow.Author.Rules.{rules}
 use Rattle.record.proofs.Reader.scroll_group.Goals as goal
 
 pub returns-then-c-eq1 : goal.returns-then-c-eq1

@@ -1,7 +1,6 @@
 -- `settings::Map::advance` meets its contract, a case of the definition at each return. Assumes nothing.
 use mathlib.Core.Path.{sym}
 use Rattle.settings.proofs.Cases.{map_off, field_more, field_full}
-use borrow.Author.Rules.{rules}
 use Rattle.settings.proofs.Map.advance.Goals as goal
 
 pub returns-then-next-self : goal.returns-then-next-self

@@ -1,7 +1,6 @@
 -- `settings::Overlay::advance` meets its contract, a case of the definition at each return. Assumes nothing.
 use mathlib.Core.Path.{sym}
 use Rattle.settings.proofs.Cases.{overlay_off, text_more, text_full, pixels}
-use borrow.Author.Rules.{rules}
 use Rattle.settings.proofs.Overlay.advance.Goals as goal
 
 pub returns-then-self-eq0 : goal.returns-then-self-eq0

@@ -1,6 +1,5 @@
 -- `settings::Settings::advance` meets its contract: overlay and map advance, the look stays. Assumes nothing.
 use Rattle.settings.specs.Settings.{advanced}
-use borrow.Author.Rules.{rules}
 use Rattle.settings.proofs.Settings.advance.Goals as goal
 
 pub returns : goal.returns

@@ -1,5 +1,4 @@
 -- `settings::Settings::sound` meets its contract: the three parts are sound, and the origin is in its range. Assumes nothing.
-use borrow.Author.Rules.{rules}
 use Rattle.settings.proofs.Settings.sound.Goals as goal
 
 pub returns : goal.returns

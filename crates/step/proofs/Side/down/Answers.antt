@@ -1,5 +1,4 @@
 -- `step::Side::down` meets its contract. Assumes nothing.
-use borrow.Author.Rules.{rules}
 use mathlib.Core.Path.{ap, ◌∙◌}
 use native.Mathlib.Omega.{arith}
 use Rattle.laws.proofs.Signed.{back}

@@ -1,6 +1,5 @@
 -- `stretch::flat::after` meets its contract. Assumes nothing.
 use mathlib.Core.Path.{refl, sym}
-use borrow.Author.Rules.{rules}
 use Rattle.stretch.proofs.flat.after.Goals as goal
 
 pub returns-then-writes : goal.returns-then-writes

@@ -1,5 +1,4 @@
 -- `stretch::flat::before_wrap` meets its contract. Assumes nothing.
-use borrow.Author.Rules.{rules}
 use Rattle.stretch.proofs.Fitting.{wrap_unread, wrap_read}
 use Rattle.stretch.proofs.flat.before_wrap.Goals as goal
 

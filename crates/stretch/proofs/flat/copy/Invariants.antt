@@ -1,9 +1,6 @@
 -- `stretch::flat::copy` meets its contract: the loop goes on as `Passing` says. Assumes nothing.
-use mathlib.Core.Path.{refl}
 use Prim.Native.Nat.{◌-◌, ◌*◌}
-use native.Mathlib.Omega.{arith}
-use borrow.Author.Rules.{rules}
-use Rattle.stretch.proofs.Passing.{Passing, pass_start, pass_copy, pass_all, pass_done}
+use Rattle.stretch.proofs.Passing.{Passing}
 use Rattle.stretch.proofs.flat.copy.Given as goal
 
 abbrev pub invariant-loop-k : goal.invariant-loop-k

@@ -1,7 +1,6 @@
 -- `stretch::flat::draw` meets its contract. Assumes nothing.
 use mathlib.Core.Path.{sym, ◌∙◌}
 use native.Mathlib.Omega.{arith}
-use borrow.Author.Rules.{rules}
 use borrow.Author.Tests.{not-true, not-false}
 use Rattle.laws.proofs.Choice.{both}
 use Rattle.stretch.proofs.Fitting.{part_few, part_flat, none_drawn, part_drawn}

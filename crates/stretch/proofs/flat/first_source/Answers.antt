@@ -1,6 +1,5 @@
 -- `stretch::flat::first_source` meets its contract. Assumes nothing.
 use native.Mathlib.Omega.{arith}
-use borrow.Author.Rules.{rules}
 use Rattle.stretch.proofs.flat.first_source.Goals as goal
 
 pub returns-then-block-ne0 : goal.returns-then-block-ne0

@@ -1,6 +1,5 @@
 -- `stretch::flat::level` meets its contract. Assumes nothing.
 use mathlib.Core.Path.{sym, ◌∙◌}
-use borrow.Author.Rules.{rules}
 use Rattle.stretch.proofs.Levels.{level_none, level_0, level_mixed}
 use Rattle.stretch.proofs.flat.level.Goals as goal
 

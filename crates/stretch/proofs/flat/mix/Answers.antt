@@ -1,16 +1,14 @@
 -- `stretch::flat::mix` meets its contract: the loop goes on as `Passing` says, in whatever mode. Assumes nothing.
 use mathlib.Core.Path.{refl}
 use mathlib.Core.Bool.{cond}
-use Prim.Native.Nat.{ℕ, ◌+◌, ◌-◌, ◌*◌, ◌≤◌}
+use Prim.Native.Nat.{ℕ, ◌*◌, ◌≤◌}
 use native.Mathlib.Nat.{zero-mul, mul-le-mul}
 use native.Mathlib.Omega.{arith}
 use mir.Val.{bool_byte}
-use borrow.Author.Rules.{rules}
 use Rattle.laws.proofs.Choice.{bool_byte_lem, bool_small}
 use Rattle.mode.specs.Mode.{cost_in}
 use Rattle.block.specs.Byte.{reads_source}
-use Rattle.block.specs.declared.Block.{Block}
-use Rattle.stretch.proofs.Passing.{Passing, pass_start, pass_mix, pass_all, pass_done}
+use Rattle.stretch.proofs.Passing.{pass_start, pass_mix, pass_all, pass_done}
 use Rattle.stretch.proofs.flat.mix.Goals as goal
 
 -- every product is small

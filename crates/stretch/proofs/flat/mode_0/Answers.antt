@@ -1,7 +1,6 @@
 -- `stretch::flat::mode_0` meets its contract. Assumes nothing.
 use mathlib.Core.Path.{sym, ◌∙◌}
 use native.Mathlib.Omega.{arith}
-use borrow.Author.Rules.{rules}
 use borrow.Author.Tests.{not-false}
 use Rattle.vram.proofs.Length.{good}
 use Rattle.stretch.proofs.Places.{place_in}

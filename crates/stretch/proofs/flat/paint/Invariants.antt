@@ -1,11 +1,8 @@
 -- `stretch::flat::paint` meets its contract: what is left to paint makes of memory what the whole makes of the beginning. Assumes nothing.
-use mathlib.Core.Path.{◌≡◌, refl, ◌∙◌}
+use mathlib.Core.Path.{◌≡◌}
 use Prim.Native.Nat.{◌+◌, ◌-◌}
-use native.Mathlib.Omega.{arith}
-use lib.ListN.{length, length-set}
-use borrow.Author.Rules.{rules}
+use lib.ListN.{length}
 use Rattle.stretch.specs.Flat.{painted}
-use Rattle.stretch.proofs.Painting.{paint_start, paint_on, paint_done}
 use Rattle.stretch.proofs.flat.paint.Given as goal
 
 abbrev pub invariant-loop-k : goal.invariant-loop-k

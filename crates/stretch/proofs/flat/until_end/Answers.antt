@@ -1,6 +1,5 @@
 -- `stretch::flat::until_end` meets its contract. Assumes nothing.
 use native.Mathlib.Omega.{arith}
-use borrow.Author.Rules.{rules}
 use Rattle.vram.proofs.Length.{good}
 use Rattle.stretch.proofs.Fitting.{until_less, until_all}
 use Rattle.stretch.proofs.flat.until_end.Goals as goal

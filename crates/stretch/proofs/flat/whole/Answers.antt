@@ -1,7 +1,6 @@
 -- `stretch::flat::whole` meets its contract. Assumes nothing.
 use mathlib.Core.Path.{sym, ◌∙◌}
 use native.Mathlib.Omega.{arith}
-use borrow.Author.Rules.{rules}
 use Rattle.stretch.proofs.Levels.{no_mask}
 use Rattle.stretch.proofs.FlatWhole.{by_mix}
 use Rattle.stretch.proofs.Whole.{by_loop, by_none}
