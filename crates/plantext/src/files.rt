@@ -1,5 +1,6 @@
 // The plans and files that a program is given: on standard input, and in the files that its arguments name. What cannot be read is told on
 // standard error, `errors`; where it cannot be told either, there is nobody to tell.
+ghost use Rattle.std.specs.Prelude.{◌≡◌};
 ghost use Rattle.plantext.specs.Counts.{IsPrefixLen};
 
 use std::env::{Env, FillError};
