@@ -126,7 +126,7 @@ pub fn read_plan<R: Env + Files + Input, E: Print>(
 }
 
 // An argument at the start of what is lent, and its length; 0 where there is none or it is too long.
-fn argument<R: Env>(rt: &R, i: usize, word: &mut [u8]) -> usize
+pub fn argument<R: Env>(rt: &R, i: usize, word: &mut [u8]) -> usize
     ensures { IsPrefixLen result word.new }
 {
     match rt.arg(i, word) {
