@@ -2,6 +2,7 @@
 use block::Block;
 use board::Board;
 use boardtext::show;
+use std::io;
 
 // One byte from page s to page d, both steps in x 1.
 pub fn plain(s: u8, d: u8) -> Block {
@@ -62,24 +63,36 @@ pub fn started(low: u8, middle: u8, high: u8) -> Board {
 }
 
 // A run, what it reports, and how the board stands after it.
-pub fn ran(name: &[u8], board: Board, mem: &mut [u8], budget: u32) -> Board {
+pub fn ran<R: Print>(
+    rt: &R,
+    name: &[u8],
+    board: Board,
+    mem: &mut [u8],
+    budget: u32,
+) -> io::Result<Board> {
     let run = board.run(mem, budget);
     let report = run.report;
     let after = run.board;
-    print::text(name);
-    show::report(report);
-    show::state(after);
-    after
+    print::text(rt, name)?;
+    show::report(rt, report)?;
+    show::state(rt, after)?;
+    Ok(after)
 }
 
 // The first run of the list at 0.
-pub fn first(name: &[u8], mem: &mut [u8], budget: u32) -> Board {
-    ran(name, started(0, 0, 0), mem, budget)
+pub fn first<R: Print>(rt: &R, name: &[u8], mem: &mut [u8], budget: u32) -> io::Result<Board> {
+    ran(rt, name, started(0, 0, 0), mem, budget)
 }
 
 // A list of one block at 0, run to its end, and the eight cells from an address on.
-pub fn single(name: &[u8], mem: &mut [u8], block: Block, at: u32) {
+pub fn single<R: Print>(
+    rt: &R,
+    name: &[u8],
+    mem: &mut [u8],
+    block: Block,
+    at: u32,
+) -> io::Result<()> {
     lay(mem, 0, block);
-    first(name, mem, 100);
-    show::cells(mem, at);
+    first(rt, name, mem, 100)?;
+    show::cells(rt, mem, at)
 }

@@ -2,6 +2,7 @@
 use super::blitlist;
 use board::Board;
 use boardtext::show;
+use std::io;
 
 // A fill of 3 by 2 bytes at 2000h, zoomed 2 by 3, and one of one byte at 3000h: 37 ticks and 2.
 fn two_fills(mem: &mut [u8]) {
@@ -16,57 +17,57 @@ fn two_fills(mem: &mut [u8]) {
 }
 
 // Three runs, one tick short of them.
-fn short(mem: &mut [u8]) -> Board {
-    let ten = blitlist::first(b"39 ticks, run of 10", mem, 10);
-    let thirty = blitlist::ran(b"39 ticks, run of 20", ten, mem, 20);
-    blitlist::ran(b"39 ticks, run of 8", thirty, mem, 8)
+fn short<R: Print>(rt: &R, mem: &mut [u8]) -> io::Result<Board> {
+    let ten = blitlist::first(rt, b"39 ticks, run of 10", mem, 10)?;
+    let thirty = blitlist::ran(rt, b"39 ticks, run of 20", ten, mem, 20)?;
+    blitlist::ran(rt, b"39 ticks, run of 8", thirty, mem, 8)
 }
 
 // The last tick, and none behind it.
-fn last(mem: &mut [u8], busy: Board) {
-    let idle = blitlist::ran(b"39 ticks, run of 1", busy, mem, 1);
-    blitlist::ran(b"39 ticks, run of 5", idle, mem, 5);
-    show::cells(mem, 0x2050);
-    show::cells(mem, 0x3000);
+fn last<R: Print>(rt: &R, mem: &mut [u8], busy: Board) -> io::Result<()> {
+    let idle = blitlist::ran(rt, b"39 ticks, run of 1", busy, mem, 1)?;
+    blitlist::ran(rt, b"39 ticks, run of 5", idle, mem, 5)?;
+    show::cells(rt, mem, 0x2050)?;
+    show::cells(rt, mem, 0x3000)
 }
 
 // Idle after 39 ticks, however they are divided into runs.
-fn in_five_runs(mem: &mut [u8]) {
+fn in_five_runs<R: Print>(rt: &R, mem: &mut [u8]) -> io::Result<()> {
     two_fills(mem);
-    let busy = short(mem);
-    last(mem, busy);
+    let busy = short(rt, mem)?;
+    last(rt, mem, busy)
 }
 
 // L is 16,384, so the cell of 16,384 is the list's own first byte,
-fn own_byte(mem: &mut [u8]) {
+fn own_byte<R: Print>(rt: &R, mem: &mut [u8]) -> io::Result<()> {
     let over = blitlist::fill(0x40, 0x77);
-    blitlist::single(b"list at 0, destination 16384", mem, over, 0);
+    blitlist::single(rt, b"list at 0, destination 16384", mem, over, 0)
 }
 
 // and that of 16,417 is the width of its second block, which then takes 5 ticks and not 2.
-fn own_width(mem: &mut [u8]) {
+fn own_width<R: Print>(rt: &R, mem: &mut [u8]) -> io::Result<()> {
     let mut over = blitlist::fill(0x40, 3);
     over.dest.adr0 = 33;
     over.control = 8;
     blitlist::lay(mem, 21, blitlist::fill(0x30, 2));
-    blitlist::single(b"list at 0, destination 16417", mem, over, 0x3000);
+    blitlist::single(rt, b"list at 0, destination 16417", mem, over, 0x3000)
 }
 
 // A list over the top of memory ends like any other.
-fn over_the_top(mem: &mut [u8]) {
+fn over_the_top<R: Print>(rt: &R, mem: &mut [u8]) -> io::Result<()> {
     let mut four = blitlist::fill(0x14, 0x5A);
     four.width0 = 3;
     blitlist::lay(mem, 524280, four);
     let board = blitlist::started(0xF8, 0xFF, 7);
-    blitlist::ran(b"fill of 4, list at 524280", board, mem, 100);
-    show::cells(mem, 0x1400);
+    blitlist::ran(rt, b"fill of 4, list at 524280", board, mem, 100)?;
+    show::cells(rt, mem, 0x1400)
 }
 
 // All of them, in a memory of their own.
-pub fn all() {
+pub fn all<R: Print>(rt: &R) -> io::Result<()> {
     let mut mem = [0u8; 16384];
-    in_five_runs(&mut mem);
-    own_byte(&mut mem);
-    own_width(&mut mem);
-    over_the_top(&mut mem);
+    in_five_runs(rt, &mut mem)?;
+    own_byte(rt, &mut mem)?;
+    own_width(rt, &mut mem)?;
+    over_the_top(rt, &mut mem)
 }

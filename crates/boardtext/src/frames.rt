@@ -5,111 +5,110 @@
 use frame::Frame;
 use refusal::Refusal;
 use settings::{Look, Map, Overlay, Settings};
+use std::io;
 
-fn pair(word: &[u8], n: u16) {
-    print::text(word);
-    print::number(n as u64);
+fn pair<R: Print>(rt: &R, word: &[u8], n: u16) -> io::Result<()> {
+    print::text(rt, word)?;
+    print::number(rt, n as u64)
 }
 
 // An unsound mode is printed as its number.
-fn mode(m: u8) {
+fn mode<R: Print>(rt: &R, m: u8) -> io::Result<()> {
     match m {
-        0 => print::text(b"off "),
-        1 => print::text(b"text "),
-        2 => print::text(b"SR "),
-        3 => print::text(b"HR "),
-        4 => print::text(b"LR "),
-        _ => pair(b"mode ", m as u16),
+        0 => print::text(rt, b"off "),
+        1 => print::text(rt, b"text "),
+        2 => print::text(rt, b"SR "),
+        3 => print::text(rt, b"HR "),
+        4 => print::text(rt, b"LR "),
+        _ => pair(rt, b"mode ", m as u16),
     }
 }
 
-fn overlay(o: Overlay) {
-    mode(o.mode);
-    print::address(o.address);
-    pair(b" step ", o.step);
-    pair(b" scroll ", o.hscroll as u16);
-    pair(b" ", o.vscroll as u16);
-    print::text(b" font ");
-    print::hex(o.font);
-    pair(b" counter ", o.counter as u16);
+fn overlay<R: Print>(rt: &R, o: Overlay) -> io::Result<()> {
+    mode(rt, o.mode)?;
+    print::address(rt, o.address)?;
+    pair(rt, b" step ", o.step)?;
+    pair(rt, b" scroll ", o.hscroll as u16)?;
+    pair(rt, b" ", o.vscroll as u16)?;
+    print::text(rt, b" font ")?;
+    print::hex(rt, o.font)?;
+    pair(rt, b" counter ", o.counter as u16)
 }
 
-fn flag(on: bool, yes: &[u8], no: &[u8]) {
+fn flag<R: Print>(rt: &R, on: bool, yes: &[u8], no: &[u8]) -> io::Result<()> {
     if on {
-        print::text(yes);
-        return;
+        return print::text(rt, yes);
     }
-    print::text(no);
+    print::text(rt, no)
 }
 
-fn map(m: Map) {
-    flag(m.on, b"; map on ", b"; map off ");
-    print::address(m.address);
-    pair(b" step ", m.step);
-    pair(b" scroll ", m.hscroll as u16);
-    pair(b" ", m.vscroll as u16);
-    pair(b" field ", m.width as u16);
-    pair(b"x", m.height as u16);
-    pair(b" counter ", m.counter as u16);
+fn map<R: Print>(rt: &R, m: Map) -> io::Result<()> {
+    flag(rt, m.on, b"; map on ", b"; map off ")?;
+    print::address(rt, m.address)?;
+    pair(rt, b" step ", m.step)?;
+    pair(rt, b" scroll ", m.hscroll as u16)?;
+    pair(rt, b" ", m.vscroll as u16)?;
+    pair(rt, b" field ", m.width as u16)?;
+    pair(rt, b"x", m.height as u16)?;
+    pair(rt, b" counter ", m.counter as u16)
 }
 
-fn look(l: Look) {
-    pair(b"; width ", l.width as u16);
-    pair(b" palettes ", l.palette as u16);
-    pair(b" ", l.playfield as u16);
-    print::text(b" priority ");
-    print::hex(l.priority);
+fn look<R: Print>(rt: &R, l: Look) -> io::Result<()> {
+    pair(rt, b"; width ", l.width as u16)?;
+    pair(rt, b" palettes ", l.palette as u16)?;
+    pair(rt, b" ", l.playfield as u16)?;
+    print::text(rt, b" priority ")?;
+    print::hex(rt, l.priority)
 }
 
-fn origin(at: u32) {
+fn origin<R: Print>(rt: &R, at: u32) -> io::Result<()> {
     if at < Settings::NO_RECORD {
-        print::text(b"; record ");
-        print::address(at);
-        return;
+        print::text(rt, b"; record ")?;
+        return print::address(rt, at);
     }
-    print::text(b"; no record");
+    print::text(rt, b"; no record")
 }
 
-fn settings(s: Settings) {
-    overlay(s.overlay);
-    map(s.map);
-    look(s.look);
-    origin(s.origin);
+fn settings<R: Print>(rt: &R, s: Settings) -> io::Result<()> {
+    overlay(rt, s.overlay)?;
+    map(rt, s.map)?;
+    look(rt, s.look)?;
+    origin(rt, s.origin)
 }
 
 // A line, or lines that are all alike. The caller ends the text.
-pub fn lines(from: u16, to: u16, s: Settings) {
+pub fn lines<R: Print>(rt: &R, from: u16, to: u16, s: Settings) -> io::Result<()> {
     if from == to {
-        pair(b"line ", to);
+        pair(rt, b"line ", to)?;
     } else {
-        pair(b"lines ", from);
-        pair(b" to ", to);
+        pair(rt, b"lines ", from)?;
+        pair(rt, b" to ", to)?;
     }
-    print::text(b": ");
-    settings(s);
+    print::text(rt, b": ")?;
+    settings(rt, s)
 }
 
 // What a frame holds beside its settings.
-pub fn state(f: Frame) {
-    pair(b"frame: line ", f.line);
-    pair(b" repeat ", f.reader.repeat as u16);
-    print::text(b" list ");
-    print::address(f.reader.position);
-    flag(f.on, b" on", b" not on");
-    flag(f.reader.ended, b" ended\n", b"\n");
+pub fn state<R: Print>(rt: &R, f: Frame) -> io::Result<()> {
+    pair(rt, b"frame: line ", f.line)?;
+    pair(rt, b" repeat ", f.reader.repeat as u16)?;
+    print::text(rt, b" list ")?;
+    print::address(rt, f.reader.position)?;
+    flag(rt, f.on, b" on", b" not on")?;
+    flag(rt, f.reader.ended, b" ended\n", b"\n")
 }
 
 // All that it holds.
-pub fn holds(f: Frame) {
-    state(f);
-    print::text(b"holds: ");
-    settings(f.reader.settings);
-    print::text(b"\n");
+pub fn holds<R: Print>(rt: &R, f: Frame) -> io::Result<()> {
+    state(rt, f)?;
+    print::text(rt, b"holds: ")?;
+    settings(rt, f.reader.settings)?;
+    print::text(rt, b"\n")
 }
 
 // A line that is refused.
-pub fn refused(line: u16, why: Refusal) {
-    pair(b"line ", line);
-    print::text(b": ");
-    print::refused(why, 0);
+pub fn refused<R: Print>(rt: &R, line: u16, why: Refusal) -> io::Result<()> {
+    pair(rt, b"line ", line)?;
+    print::text(rt, b": ")?;
+    print::refused(rt, why, 0)
 }

@@ -4,6 +4,7 @@ use board::Board;
 use frame::{Frame, FrameStart, LineReport};
 use record::Reader;
 use settings::Settings;
+use std::io;
 
 // What is printed so far: up to the frame's line, but for the lines since `from`, which are all alike. `list` is where the plan's
 // first record is, or NO_RECORD where the list is no plan's.
@@ -41,13 +42,20 @@ fn item_of(mem: &[u8], list: u32, origin: u32) -> u16 {
 }
 
 // A line or lines that are all alike, with the item that made them.
-fn tell(mem: &[u8], list: u32, from: u16, to: u16, s: Settings) {
-    frames::lines(from, to, s);
+fn tell<R: Print>(
+    rt: &R,
+    mem: &[u8],
+    list: u32,
+    from: u16,
+    to: u16,
+    s: Settings,
+) -> io::Result<()> {
+    frames::lines(rt, from, to, s)?;
     if list < Settings::NO_RECORD {
-        print::text(b"; item ");
-        print::number(item_of(mem, list, s.origin) as u64);
+        print::text(rt, b"; item ")?;
+        print::number(rt, item_of(mem, list, s.origin) as u64)?;
     }
-    print::text(b"\n");
+    print::text(rt, b"\n")
 }
 
 // Whether the frame's next line is like this one.
@@ -61,7 +69,7 @@ fn next_alike(frame: Frame, mem: &[u8], s: Settings, moving: bool) -> bool {
 }
 
 // One line more; it is printed where the run ends.
-fn run_line(run: Run, mem: &[u8], last: bool) -> Run {
+fn run_line<R: Print>(rt: &R, run: Run, mem: &[u8], last: bool) -> io::Result<Run> {
     let frame = run.frame;
     let from = run.from;
     let list = run.list;
@@ -70,47 +78,47 @@ fn run_line(run: Run, mem: &[u8], last: bool) -> Run {
     let report = next.report;
     match report {
         LineReport::Refused(why) => {
-            frames::refused(frame.line, why);
-            run
+            frames::refused(rt, frame.line, why)?;
+            Ok(run)
         }
         LineReport::Line(s) => {
             if !last & next_alike(after, mem, s, false) {
-                return Run {
+                return Ok(Run {
                     frame: after,
                     from,
                     list,
-                };
+                });
             }
-            tell(mem, list, from, frame.line, s);
-            Run {
+            tell(rt, mem, list, from, frame.line, s)?;
+            Ok(Run {
                 frame: after,
                 from: after.line,
                 list,
-            }
+            })
         }
     }
 }
 
 // The next lines of a frame, those that are all alike as one, and the frame behind them.
-fn joined(frame: Frame, mem: &[u8], list: u32, count: u16) -> Frame {
+fn joined<R: Print>(rt: &R, frame: Frame, mem: &[u8], list: u32, count: u16) -> io::Result<Frame> {
     let mut run = Run {
         frame,
         from: frame.line,
         list,
     };
     for i in 0..count {
-        run = run_line(run, mem, i + 1 == count);
+        run = run_line(rt, run, mem, i + 1 == count)?;
     }
-    run.frame
+    Ok(run.frame)
 }
 
 // The same, and the frame printed.
-pub fn runs(frame: Frame, mem: &[u8], count: u16) {
-    frames::state(joined(frame, mem, Settings::NO_RECORD, count));
+pub fn runs<R: Print>(rt: &R, frame: Frame, mem: &[u8], count: u16) -> io::Result<()> {
+    frames::state(rt, joined(rt, frame, mem, Settings::NO_RECORD, count)?)
 }
 
 // One line more; it is printed where a band begins or ends, and each ninth line, so that every counter is met.
-fn sample_line(sample: Sample, mem: &[u8]) -> Sample {
+fn sample_line<R: Print>(rt: &R, sample: Sample, mem: &[u8]) -> io::Result<Sample> {
     let frame = sample.frame;
     let list = sample.list;
     let next = frame.next_line(mem);
@@ -118,58 +126,58 @@ fn sample_line(sample: Sample, mem: &[u8]) -> Sample {
     let report = next.report;
     match report {
         LineReport::Refused(why) => {
-            frames::refused(frame.line, why);
-            sample
+            frames::refused(rt, frame.line, why)?;
+            Ok(sample)
         }
         LineReport::Line(s) => {
             let first = !same::alike(sample.before, s, true);
             let last = !next_alike(after, mem, s, true);
             if first | last | (frame.line % 9 == 0) {
-                tell(mem, list, frame.line, frame.line, s);
+                tell(rt, mem, list, frame.line, frame.line, s)?;
             }
-            Sample {
+            Ok(Sample {
                 frame: after,
                 before: s,
                 list,
-            }
+            })
         }
     }
 }
 
 // The 240 lines of a frame, as many as show each band.
-fn samples(frame: Frame, mem: &[u8], list: u32) {
+fn samples<R: Print>(rt: &R, frame: Frame, mem: &[u8], list: u32) -> io::Result<()> {
     let mut sample = Sample {
         frame,
         before: Settings::new(),
         list,
     };
     for i in 0..Frame::LINES {
-        sample = sample_line(sample, mem);
+        sample = sample_line(rt, sample, mem)?;
     }
+    Ok(())
 }
 
 // Whether a refusal hands the frame back as it was.
-fn handed_back(frame: Frame, after: Frame) {
+fn handed_back<R: Print>(rt: &R, frame: Frame, after: Frame) -> io::Result<()> {
     if same::frame(frame, after) {
-        print::text(b"the frame as it was, ");
-        return;
+        return print::text(rt, b"the frame as it was, ");
     }
-    print::text(b"another frame, ");
+    print::text(rt, b"another frame, ")
 }
 
 // A frame's next line, and the frame that comes back.
-pub fn ask(frame: Frame, mem: &[u8]) {
+pub fn ask<R: Print>(rt: &R, frame: Frame, mem: &[u8]) -> io::Result<()> {
     let next = frame.next_line(mem);
     let after = next.frame;
     let report = next.report;
     match report {
         LineReport::Refused(why) => {
-            handed_back(frame, after);
-            print::refused(why, 0);
+            handed_back(rt, frame, after)?;
+            print::refused(rt, why, 0)
         }
         LineReport::Line(s) => {
-            tell(mem, Settings::NO_RECORD, frame.line, frame.line, s);
-            frames::holds(after);
+            tell(rt, mem, Settings::NO_RECORD, frame.line, frame.line, s)?;
+            frames::holds(rt, after)
         }
     }
 }
@@ -184,20 +192,20 @@ fn pointed(address: u32, video: u8) -> Board {
 }
 
 // The first lines of a frame of the list at the address.
-pub fn show(mem: &[u8], address: u32, video: u8, count: u16) {
+pub fn show<R: Print>(rt: &R, mem: &[u8], address: u32, video: u8, count: u16) -> io::Result<()> {
     let start = Frame::start(pointed(address, video));
     match start {
-        FrameStart::Refused(why) => print::refused(why, 0),
-        FrameStart::Started(frame) => runs(frame, mem, count),
+        FrameStart::Refused(why) => print::refused(rt, why, 0),
+        FrameStart::Started(frame) => runs(rt, frame, mem, count),
     }
 }
 
 // A whole frame of the plan's list at the address, switched on: as many lines as show each band.
-pub fn show_bands(mem: &[u8], address: u32) {
+pub fn show_bands<R: Print>(rt: &R, mem: &[u8], address: u32) -> io::Result<()> {
     let start = Frame::start(pointed(address, 1));
     match start {
-        FrameStart::Refused(why) => print::refused(why, 0),
-        FrameStart::Started(frame) => samples(frame, mem, address),
+        FrameStart::Refused(why) => print::refused(rt, why, 0),
+        FrameStart::Started(frame) => samples(rt, frame, mem, address),
     }
 }
 
@@ -212,12 +220,19 @@ fn lines_on(frame: Frame, mem: &[u8], count: u16) -> Frame {
 }
 
 // So many lines of the plan's frame from one on, those that are all alike as one.
-pub fn show_joined(mem: &[u8], address: u32, from: u16, count: u16) {
+pub fn show_joined<R: Print>(
+    rt: &R,
+    mem: &[u8],
+    address: u32,
+    from: u16,
+    count: u16,
+) -> io::Result<()> {
     let start = Frame::start(pointed(address, 1));
     match start {
-        FrameStart::Refused(why) => print::refused(why, 0),
+        FrameStart::Refused(why) => print::refused(rt, why, 0),
         FrameStart::Started(frame) => {
-            joined(lines_on(frame, mem, from), mem, address, count);
+            joined(rt, lines_on(frame, mem, from), mem, address, count)?;
+            Ok(())
         }
     }
 }

@@ -2,74 +2,75 @@
 use board::Board;
 use engine::RunReport;
 use refusal::Outcome;
+use std::io;
 
 // A name and a number.
-pub fn field(name: &[u8], value: u64) {
-    print::text(name);
-    print::number(value);
+pub fn field<R: Print>(rt: &R, name: &[u8], value: u64) -> io::Result<()> {
+    print::text(rt, name)?;
+    print::number(rt, value)
 }
 
 // The blitter between two ticks, and the end of the line.
-pub fn state(board: Board) {
+pub fn state<R: Print>(rt: &R, board: Board) -> io::Result<()> {
     let blitter = board.blitter;
-    field(b"; flags ", blitter.flags as u64);
-    field(b" list ", blitter.list as u64);
-    field(b" code ", blitter.note.code as u64);
-    field(b" row ", blitter.row as u64);
-    field(b" col ", blitter.col as u64);
-    field(b" irqe ", blitter.irqe as u64);
-    field(b" irqf ", blitter.irqf as u64);
-    print::text(b"\n");
+    field(rt, b"; flags ", blitter.flags as u64)?;
+    field(rt, b" list ", blitter.list as u64)?;
+    field(rt, b" code ", blitter.note.code as u64)?;
+    field(rt, b" row ", blitter.row as u64)?;
+    field(rt, b" col ", blitter.col as u64)?;
+    field(rt, b" irqe ", blitter.irqe as u64)?;
+    field(rt, b" irqf ", blitter.irqf as u64)?;
+    print::text(rt, b"\n")
 }
 
 // The registers that are only written to, and the end of the line.
-pub fn ports(board: Board) {
+pub fn ports<R: Print>(rt: &R, board: Board) -> io::Result<()> {
     let ports = board.ports;
-    field(b"; video ", ports.video as u64);
-    field(b" xdl ", ports.xdladr as u64);
-    field(b" bl ", ports.bladr as u64);
-    field(b" p ", ports.p0 as u64);
-    field(b" ", ports.p1 as u64);
-    field(b" ", ports.p2 as u64);
-    field(b" ", ports.p3 as u64);
-    print::text(b"\n");
+    field(rt, b"; video ", ports.video as u64)?;
+    field(rt, b" xdl ", ports.xdladr as u64)?;
+    field(rt, b" bl ", ports.bladr as u64)?;
+    field(rt, b" p ", ports.p0 as u64)?;
+    field(rt, b" ", ports.p1 as u64)?;
+    field(rt, b" ", ports.p2 as u64)?;
+    field(rt, b" ", ports.p3 as u64)?;
+    print::text(rt, b"\n")
 }
 
 // What a run reports.
-pub fn report(report: RunReport) {
+pub fn report<R: Print>(rt: &R, report: RunReport) -> io::Result<()> {
     match report {
         RunReport::Ran { ticks, accesses } => {
-            field(b": ticks ", ticks as u64);
-            field(b" accesses ", accesses as u64);
+            field(rt, b": ticks ", ticks as u64)?;
+            field(rt, b" accesses ", accesses as u64)
         }
-        RunReport::Refused(why) => field(b": refused ", why.number() as u64),
+        RunReport::Refused(why) => field(rt, b": refused ", why.number() as u64),
     }
 }
 
 // Whether a call was done.
-pub fn outcome(outcome: Outcome) {
+pub fn outcome<R: Print>(rt: &R, outcome: Outcome) -> io::Result<()> {
     match outcome {
-        Outcome::Done => print::text(b" done"),
-        Outcome::Refused(why) => field(b" refused ", why.number() as u64),
+        Outcome::Done => print::text(rt, b" done"),
+        Outcome::Refused(why) => field(rt, b" refused ", why.number() as u64),
     }
 }
 
-fn cell(mem: &[u8], at: u32, offset: u8) {
-    print::text(b" ");
-    print::hex(vram::byte_at(mem, at, offset));
+fn cell<R: Print>(rt: &R, mem: &[u8], at: u32, offset: u8) -> io::Result<()> {
+    print::text(rt, b" ")?;
+    print::hex(rt, vram::byte_at(mem, at, offset))
 }
 
 // Eight cells from an address on, in a line.
-pub fn cells(mem: &[u8], at: u32) {
-    field(b"  ", at as u64);
-    print::text(b":");
-    cell(mem, at, 0);
-    cell(mem, at, 1);
-    cell(mem, at, 2);
-    cell(mem, at, 3);
-    cell(mem, at, 4);
-    cell(mem, at, 5);
-    cell(mem, at, 6);
-    cell(mem, at, 7);
-    print::text(b"\n");
+pub fn cells<R: Print>(rt: &R, mem: &[u8], at: u32) -> io::Result<()> {
+    field(rt, b"  ", at as u64)?;
+    print::text(rt, b":")?;
+    cell(rt, mem, at, 0)?;
+    cell(rt, mem, at, 1)?;
+    cell(rt, mem, at, 2)?;
+    cell(rt, mem, at, 3)?;
+    cell(rt, mem, at, 4)?;
+    cell(rt, mem, at, 5)?;
+    cell(rt, mem, at, 6)?;
+    cell(rt, mem, at, 7)?;
+    print::text(rt, b"\n")
 }

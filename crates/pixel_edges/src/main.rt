@@ -5,18 +5,19 @@
 use board::Board;
 use pixels::Drawn;
 use settings::Settings;
+use std::io;
 
 // The entry at a place; 0 past the end.
 fn entry(line: &[u16], i: usize) -> u16 {
     if i < line.len() { line[i] } else { 0 }
 }
 
-fn entries(line: &[u16], from: usize, to: usize) {
+fn entries<R: Print>(rt: &R, line: &[u16], from: usize, to: usize) -> io::Result<()> {
     for i in from..to {
-        print::text(b" ");
-        print::number(entry(line, i) as u64);
+        print::text(rt, b" ")?;
+        print::number(rt, entry(line, i) as u64)?;
     }
-    print::text(b"\n");
+    print::text(rt, b"\n")
 }
 
 // Whether all entries from a place on are still 7.
@@ -29,46 +30,60 @@ fn stay(line: &[u16], from: usize) -> bool {
     true
 }
 
-fn behind(line: &[u16], from: usize) {
+fn behind<R: Print>(rt: &R, line: &[u16], from: usize) -> io::Result<()> {
     if stay(line, from) {
-        print::text(b"  behind: as before\n");
+        print::text(rt, b"  behind: as before\n")
     } else {
-        print::text(b"  behind: changed\n");
+        print::text(rt, b"  behind: changed\n")
     }
 }
 
-fn counted(line: &[u16], n: usize) {
-    print::number(n as u64);
-    print::text(b" pixels\n");
+fn counted<R: Print>(rt: &R, line: &[u16], n: usize) -> io::Result<()> {
+    print::number(rt, n as u64)?;
+    print::text(rt, b" pixels\n")?;
     if 16 <= n {
-        print::text(b"  first:");
-        entries(line, 0, 16);
-        print::text(b"  last:");
-        entries(line, n - 4, n);
+        print::text(rt, b"  first:")?;
+        entries(rt, line, 0, 16)?;
+        print::text(rt, b"  last:")?;
+        entries(rt, line, n - 4, n)?;
     }
-    behind(line, n);
+    behind(rt, line, n)
 }
 
 // Draws into the first `room` entries of the line.
-fn into(line: &mut [u16], board: Board, settings: Settings, mem: &[u8], room: usize) {
+fn into<R: Print>(
+    rt: &R,
+    line: &mut [u16],
+    board: Board,
+    settings: Settings,
+    mem: &[u8],
+    room: usize,
+) -> io::Result<()> {
     if line.len() < room {
-        return;
+        return Ok(());
     }
     let told = pixels::draw(board, settings, mem, &mut line[0..room]);
     match told {
-        Drawn::Pixels(n) => counted(line, n as usize),
+        Drawn::Pixels(n) => counted(rt, line, n as usize),
         Drawn::Refused(why) => {
-            print::refused(why, 0);
-            behind(line, 0);
+            print::refused(rt, why, 0)?;
+            behind(rt, line, 0)
         }
     }
 }
 
-fn drawn(title: &[u8], board: Board, settings: Settings, mem: &[u8], room: usize) {
+fn drawn<R: Print>(
+    rt: &R,
+    title: &[u8],
+    board: Board,
+    settings: Settings,
+    mem: &[u8],
+    room: usize,
+) -> io::Result<()> {
     let mut line = [7u16; 680];
-    print::text(title);
-    print::text(b": ");
-    into(&mut line, board, settings, mem, room);
+    print::text(rt, title)?;
+    print::text(rt, b": ")?;
+    into(rt, &mut line, board, settings, mem, room)
 }
 
 // A sound board with a VIDEO_CONTROL of so much.
@@ -92,13 +107,13 @@ fn picture(mode: u8, width: u8, palette: u8, address: u32) -> Settings {
 }
 
 // Under each of the four settings of no_trans and trans15; bit 0, xdl_enabled, does not matter.
-fn four(title: &[u8], settings: Settings, mem: &[u8]) {
-    print::text(title);
-    print::text(b"\n");
-    drawn(b"no flags", video(0), settings, mem, 680);
-    drawn(b"no_trans", video(4), settings, mem, 680);
-    drawn(b"trans15", video(9), settings, mem, 680);
-    drawn(b"both", video(13), settings, mem, 680);
+fn four<R: Print>(rt: &R, title: &[u8], settings: Settings, mem: &[u8]) -> io::Result<()> {
+    print::text(rt, title)?;
+    print::text(rt, b"\n")?;
+    drawn(rt, b"no flags", video(0), settings, mem, 680)?;
+    drawn(rt, b"no_trans", video(4), settings, mem, 680)?;
+    drawn(rt, b"trans15", video(9), settings, mem, 680)?;
+    drawn(rt, b"both", video(13), settings, mem, 680)
 }
 
 // Over the top of memory stand 1F 80 03 00 0F 00; at 100 F0 1F; at 200 two characters with their attributes, and 64 characters behind the
@@ -113,113 +128,129 @@ fn place(mem: &mut [u8], attribute: u8, other: u8) {
     vram::install(mem, b"\x01", 3075);
 }
 
-fn modes(mem: &[u8]) {
-    four(b"SR over the top, palette 2", picture(2, 1, 2, 524286), mem);
-    four(b"LR there", picture(4, 1, 2, 524286), mem);
+fn modes<R: Print>(rt: &R, mem: &[u8]) -> io::Result<()> {
+    four(
+        rt,
+        b"SR over the top, palette 2",
+        picture(2, 1, 2, 524286),
+        mem,
+    )?;
+    four(rt, b"LR there", picture(4, 1, 2, 524286), mem)?;
     let mut s = picture(3, 1, 1, 100);
     s.overlay.hscroll = 5;
-    four(b"HR, palette 1, hscroll 5", s, mem);
+    four(rt, b"HR, palette 1, hscroll 5", s, mem)?;
     four(
+        rt,
         b"Text, palette 2, attributes 0F and 8F",
         picture(1, 1, 2, 200),
         mem,
-    );
+    )
 }
 
 // One character more, only where the line is scrolled; the map on, with a palette that its cells, which are 0, do not have; data that goes over the top, and over
 // memory's end.
-fn scrolled(mem: &[u8]) {
+fn scrolled<R: Print>(rt: &R, mem: &[u8]) -> io::Result<()> {
     let mut s = picture(1, 0, 0, 200);
-    drawn(b"Text, narrow, not scrolled", video(0), s, mem, 680);
+    drawn(rt, b"Text, narrow, not scrolled", video(0), s, mem, 680)?;
     s.overlay.hscroll = 1;
-    drawn(b"hscroll 1", video(0), s, mem, 680);
+    drawn(rt, b"hscroll 1", video(0), s, mem, 680)?;
     s.overlay.hscroll = 7;
-    drawn(b"hscroll 7", video(0), s, mem, 680);
+    drawn(rt, b"hscroll 7", video(0), s, mem, 680)?;
     s.map.on = true;
     s.look.palette = 2;
-    drawn(b"hscroll 7, the map on", video(0), s, mem, 680);
+    drawn(rt, b"hscroll 7, the map on", video(0), s, mem, 680)?;
     s.overlay.address = 524287;
-    drawn(b"hscroll 7, over the top", video(4), s, mem, 680);
+    drawn(rt, b"hscroll 7, over the top", video(4), s, mem, 680)?;
     s.overlay.address = 16383;
-    drawn(b"hscroll 7, over memory's end", video(4), s, mem, 680);
+    drawn(rt, b"hscroll 7, over memory's end", video(4), s, mem, 680)
 }
 
-fn widths(title: &[u8], mode: u8, mem: &[u8]) {
-    print::text(title);
-    print::text(b"\n");
-    drawn(b"narrow", video(0), picture(mode, 0, 3, 0), mem, 680);
-    drawn(b"normal", video(0), picture(mode, 1, 3, 0), mem, 680);
-    drawn(b"wide", video(0), picture(mode, 2, 3, 0), mem, 680);
+fn widths<R: Print>(rt: &R, title: &[u8], mode: u8, mem: &[u8]) -> io::Result<()> {
+    print::text(rt, title)?;
+    print::text(rt, b"\n")?;
+    drawn(rt, b"narrow", video(0), picture(mode, 0, 3, 0), mem, 680)?;
+    drawn(rt, b"normal", video(0), picture(mode, 1, 3, 0), mem, 680)?;
+    drawn(rt, b"wide", video(0), picture(mode, 2, 3, 0), mem, 680)
 }
 
-fn counts(mem: &[u8]) {
-    widths(b"Off", 0, mem);
-    widths(b"Text", 1, mem);
-    widths(b"SR", 2, mem);
-    widths(b"HR", 3, mem);
-    widths(b"LR", 4, mem);
+fn counts<R: Print>(rt: &R, mem: &[u8]) -> io::Result<()> {
+    widths(rt, b"Off", 0, mem)?;
+    widths(rt, b"Text", 1, mem)?;
+    widths(rt, b"SR", 2, mem)?;
+    widths(rt, b"HR", 3, mem)?;
+    widths(rt, b"LR", 4, mem)
 }
 
 // 17, 15 and 1, each where it begins to hold, and their order.
-fn refusals(mem: &[u8]) {
+fn refusals<R: Print>(rt: &R, mem: &[u8]) -> io::Result<()> {
     let s = picture(2, 1, 1, 0);
     drawn(
+        rt,
         b"Off, into no entries",
         video(0),
         picture(0, 1, 1, 0),
         mem,
         0,
-    );
-    drawn(b"SR, into no entries", video(0), s, mem, 0);
-    drawn(b"SR, into 319", video(0), s, mem, 319);
-    drawn(b"SR, into 320", video(0), s, mem, 320);
+    )?;
+    drawn(rt, b"SR, into no entries", video(0), s, mem, 0)?;
+    drawn(rt, b"SR, into 319", video(0), s, mem, 319)?;
+    drawn(rt, b"SR, into 320", video(0), s, mem, 320)?;
     drawn(
+        rt,
         b"Text, wide, into 671",
         video(0),
         picture(1, 2, 1, 0),
         mem,
         671,
-    );
+    )?;
     drawn(
+        rt,
         b"Text, wide, into 672",
         video(0),
         picture(1, 2, 1, 0),
         mem,
         672,
-    );
+    )?;
     let mut t = s;
     t.map.height = 4;
     t.map.counter = 4;
-    drawn(b"Field counter 4 of 4", video(0), t, mem, 319);
+    drawn(rt, b"Field counter 4 of 4", video(0), t, mem, 319)?;
     t = s;
     t.origin = 524289;
-    drawn(b"Origin 524289", video(0), t, mem, 320);
+    drawn(rt, b"Origin 524289", video(0), t, mem, 320)?;
     t = s;
     t.overlay.mode = 5;
-    drawn(b"Mode 5", video(0), t, mem, 680);
+    drawn(rt, b"Mode 5", video(0), t, mem, 680)?;
     t = s;
     t.overlay.hscroll = 8;
-    drawn(b"hscroll 8 in SR", video(0), t, mem, 680);
-    drawn(b"VIDEO_CONTROL 16", video(16), s, mem, 319);
-    drawn(b"VIDEO_CONTROL 15", video(15), s, mem, 680);
+    drawn(rt, b"hscroll 8 in SR", video(0), t, mem, 680)?;
+    drawn(rt, b"VIDEO_CONTROL 16", video(16), s, mem, 319)?;
+    drawn(rt, b"VIDEO_CONTROL 15", video(15), s, mem, 680)?;
     if 16383 <= mem.len() {
         drawn(
+            rt,
             b"Memory of 16383, VIDEO_CONTROL 16",
             video(16),
             s,
             &mem[0..16383],
             319,
-        );
+        )?;
     }
+    Ok(())
 }
 
-fn main() {
+fn main(rt: HostRuntime) -> io::Result<()> {
     let mut mem = [0u8; 16384];
     place(&mut mem, 0x0F, 0x8F);
-    modes(&mem);
-    scrolled(&mem);
-    counts(&mem);
-    refusals(&mem);
+    modes(&rt, &mem)?;
+    scrolled(&rt, &mem)?;
+    counts(&rt, &mem)?;
+    refusals(&rt, &mem)?;
     place(&mut mem, 0x80, 0x00);
-    four(b"Text, attributes 80 and 00", picture(1, 0, 2, 200), &mem);
+    four(
+        &rt,
+        b"Text, attributes 80 and 00",
+        picture(1, 0, 2, 200),
+        &mem,
+    )
 }

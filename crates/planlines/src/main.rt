@@ -21,6 +21,9 @@ use boardtext::lines;
 use frame::Frame;
 use plantext::files;
 use refusal::Outcome;
+use std::env::Env;
+use std::io;
+use std::rt::Files;
 
 // Where a list's first record goes over the top of memory.
 const TOP: u32 = 524280;
@@ -32,135 +35,162 @@ enum View {
     Lines { from: u16, count: u16 },
 }
 
-fn printed(mem: &[u8], at: u32, view: View) {
+fn printed<R: Print>(rt: &R, mem: &[u8], at: u32, view: View) -> io::Result<()> {
     match view {
-        View::Bands => lines::show_bands(mem, at),
-        View::Lines { from, count } => lines::show_joined(mem, at, from, count),
+        View::Bands => lines::show_bands(rt, mem, at),
+        View::Lines { from, count } => lines::show_joined(rt, mem, at, from, count),
     }
 }
 
-fn installed(mem: &mut [u8], list: &[u8], at: u32, view: View) {
+fn installed<R: Print>(rt: &R, mem: &mut [u8], list: &[u8], at: u32, view: View) -> io::Result<()> {
     let r = vram::install(mem, list, at);
     match r {
-        Outcome::Refused(why) => print::refused(why, 0),
-        Outcome::Done => printed(mem, at, view),
+        Outcome::Refused(why) => print::refused(rt, why, 0),
+        Outcome::Done => printed(rt, mem, at, view),
     }
 }
 
 // Memory is not 0, so that a record read past the list would show.
-fn shown(plan: &[u8], at: u32, view: View) {
+fn shown<R: Print>(rt: &R, plan: &[u8], at: u32, view: View) -> io::Result<()> {
     let mut list = [0u8; 5280];
-    let n = plantext::compiled(plan, &mut list, 1);
+    let n = plantext::compiled(plan, &mut list, rt)?;
     if n == 0 {
-        return;
+        return Ok(());
     }
     let mut mem = [0xEEu8; 16384];
-    installed(&mut mem, &list[..n], at, view);
+    installed(rt, &mut mem, &list[..n], at, view)
 }
 
 // The plan in the file that an argument names.
-fn file(i: usize, at: u32, view: View) {
+fn file<R: Env + Files + Input + Print, E: Print>(
+    rt: &R,
+    errors: &E,
+    i: usize,
+    at: u32,
+    view: View,
+) -> io::Result<()> {
     let mut plan = [0u8; 8192];
-    let got = files::read_plan(i, &mut plan);
+    let got = files::read_plan(rt, errors, i, &mut plan);
     if got.failed {
-        return;
+        return Ok(());
     }
     match view {
-        View::Bands => files::print_name(i, b"\n"),
+        View::Bands => files::print_name(rt, i, b"\n")?,
         View::Lines { from, count } => (),
     }
     let n = got.bytes;
-    shown(&plan[..n], at, view);
+    shown(rt, &plan[..n], at, view)
 }
 
 // Every plan that an argument behind --bands names.
-fn bands(arguments: usize) {
+fn bands<R: Env + Files + Input + Print, E: Print>(
+    rt: &R,
+    errors: &E,
+    arguments: usize,
+) -> io::Result<()> {
     if arguments < 3 {
-        usage(2);
+        usage(errors)?;
     }
     for i in 2..arguments {
-        file(i, TOP, View::Bands);
+        file(rt, errors, i, TOP, View::Bands)?;
     }
+    Ok(())
 }
 
-fn usage(fd: i32) {
-    io::write_all(
-        fd,
+fn usage<P: Print>(to: &P) -> io::Result<()> {
+    print::text(
+        to,
         b"usage: planlines FILE [ADDRESS [LINE]]\n       planlines --bands FILE..\n",
-    );
+    )
 }
 
-fn help() {
-    usage(1);
-    io::write_all(
-        1,
+fn help<R: Print>(rt: &R) -> io::Result<()> {
+    usage(rt)?;
+    print::text(
+        rt,
         b"Installs the display list of FILE's plan at ADDRESS and switches it on, and prints\n",
-    );
-    io::write_all(
-        1,
+    )?;
+    print::text(
+        rt,
         b"the settings of each of the 240 lines, lines that are alike as one, or of LINE alone;\n",
-    );
-    io::write_all(
-        1,
+    )?;
+    print::text(
+        rt,
         b"then the address of the record that made the line, and the number of its item in the\n",
-    );
-    io::write_all(
-        1,
+    )?;
+    print::text(
+        rt,
         b"plan, from 0. ADDRESS is 0 to 524287, or 0x0 to 0x7FFFF, and 0 where it is not given;\n",
-    );
-    io::write_all(
-        1,
+    )?;
+    print::text(
+        rt,
         b"LINE is 0 to 239, or 0x0 to 0xEF. A plan that is refused prints the number of the\n",
-    );
-    io::write_all(1, b"refusal and the item (docs/HELP.md).\n");
-    io::write_all(
-        1,
+    )?;
+    print::text(rt, b"refusal and the item (docs/HELP.md).\n")?;
+    print::text(
+        rt,
         b"--bands installs each list over the top of memory, at 524280, and prints the lines\n",
-    );
-    io::write_all(1, b"where a band begins or ends, and each ninth.\n");
-    io::write_all(
-        1,
+    )?;
+    print::text(rt, b"where a band begins or ends, and each ninth.\n")?;
+    print::text(
+        rt,
         b"Beside it: planxdl prints the list; desk-run, at the top of the repository, builds\n",
-    );
-    io::write_all(1, b"a program and runs it: ./desk-run planxdl --help\n");
+    )?;
+    print::text(rt, b"a program and runs it: ./desk-run planxdl --help\n")
 }
 
-fn lines_at(at: u32, from: u16, count: u16) {
+fn lines_at<R: Env + Files + Input + Print, E: Print>(
+    rt: &R,
+    errors: &E,
+    at: u32,
+    from: u16,
+    count: u16,
+) -> io::Result<()> {
     if at < number::NONE {
-        file(1, at, View::Lines { from, count });
+        file(rt, errors, 1, at, View::Lines { from, count })
     } else {
-        io::write_all(2, b"ADDRESS is 0 to 524287, or 0x0 to 0x7FFFF\n");
-        usage(2);
+        print::text(errors, b"ADDRESS is 0 to 524287, or 0x0 to 0x7FFFF\n")?;
+        usage(errors)
     }
 }
 
-fn line_at(at: u32, line: u32) {
+fn line_at<R: Env + Files + Input + Print, E: Print>(
+    rt: &R,
+    errors: &E,
+    at: u32,
+    line: u32,
+) -> io::Result<()> {
     if line < Frame::LINES as u32 {
-        lines_at(at, line as u16, 1);
+        lines_at(rt, errors, at, line as u16, 1)
     } else {
-        io::write_all(2, b"LINE is 0 to 239, or 0x0 to 0xEF\n");
-        usage(2);
+        print::text(errors, b"LINE is 0 to 239, or 0x0 to 0xEF\n")?;
+        usage(errors)
     }
 }
 
-fn joined(arguments: usize) {
+fn joined<R: Env + Files + Input + Print, E: Print>(
+    rt: &R,
+    errors: &E,
+    arguments: usize,
+) -> io::Result<()> {
     match arguments {
-        2 => lines_at(0, 0, Frame::LINES),
-        3 => lines_at(number::of(2), 0, Frame::LINES),
-        4 => line_at(number::of(2), number::of(3)),
-        _ => usage(2),
+        2 => lines_at(rt, errors, 0, 0, Frame::LINES),
+        3 => lines_at(rt, errors, number::of(rt, 2), 0, Frame::LINES),
+        4 => line_at(rt, errors, number::of(rt, 2), number::of(rt, 3)),
+        _ => usage(errors),
     }
 }
 
-fn main() {
-    let arguments = os::arg_count();
-    if files::is(1, b"--help") {
-        help();
-    } else if files::is(1, b"--bands") {
-        bands(arguments);
-    } else if files::is_option(1) {
-        usage(2);
+fn main(rt: HostRuntime) -> io::Result<()> {
+    let errors = rt.stderr();
+    let arguments = files::count(&rt);
+    if files::is(&rt, 1, b"--help") {
+        help(&rt)
+    } else if files::is(&rt, 1, b"--bands") {
+        bands(&rt, &errors, arguments)
+    } else if files::is_option(&rt, 1) {
+        usage(&errors)
     } else {
-        joined(arguments);
+        joined(&rt, &errors, arguments)
     }
 }

@@ -1,5 +1,8 @@
 // A number as an argument writes it: an address or a line, decimal, or 0x and hex.
 
+use plantext::files;
+use std::env::Env;
+
 // What stands for no number, and for all that are too large: behind the last address.
 pub const NONE: u32 = 524288;
 
@@ -62,8 +65,8 @@ fn parsed(word: &[u8]) -> u32 {
 }
 
 // The number that an argument writes.
-pub fn of(i: usize) -> u32 {
-    let mut word = io::buffer();
-    let n = os::arg(i, &mut word);
+pub fn of<R: Env>(rt: &R, i: usize) -> u32 {
+    let mut word = [0u8; 4096];
+    let n = files::argument(rt, i, &mut word);
     parsed(&word[..n])
 }

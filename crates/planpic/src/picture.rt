@@ -3,6 +3,7 @@ use board::Board;
 use frame::{Frame, FrameStart, LineReport};
 use pixels::Drawn;
 use settings::Settings;
+use std::io;
 
 // A point of the picture.
 #[derive(Clone, Copy)]
@@ -87,49 +88,69 @@ fn fill_row(row: &mut [u8], line: &[u16], mode: u8, left: usize) {
 }
 
 // A line in the middle of its row.
-fn write_row(line: &[u16], mode: u8) {
+fn write_row<R: Print>(rt: &R, line: &[u16], mode: u8) -> io::Result<()> {
     let mut row = [0u8; 2016];
     let wide = points(mode, line.len());
     if WIDTH < wide {
-        return;
+        return Ok(());
     }
     fill_row(&mut row, line, mode, (WIDTH - wide) / 2);
-    print::text(&row);
+    print::text(rt, &row)
 }
 
 // The first n entries of a drawn line.
-fn drawn(line: &[u16], n: usize, mode: u8) {
+fn drawn<R: Print>(rt: &R, line: &[u16], n: usize, mode: u8) -> io::Result<()> {
     if n <= line.len() {
-        write_row(&line[0..n], mode);
+        write_row(rt, &line[0..n], mode)?;
     }
+    Ok(())
 }
 
-fn row(board: Board, settings: Settings, mem: &[u8]) {
+fn row<R: Print, E: Print>(
+    rt: &R,
+    errors: &E,
+    board: Board,
+    settings: Settings,
+    mem: &[u8],
+) -> io::Result<()> {
     let mut line = [0u16; 672];
     let overlay = settings.overlay;
     let told = pixels::draw(board, settings, mem, &mut line);
     match told {
-        Drawn::Pixels(n) => drawn(&line, n as usize, overlay.mode),
-        Drawn::Refused(why) => print::refused_to(2, why, 0),
+        Drawn::Pixels(n) => drawn(rt, &line, n as usize, overlay.mode),
+        Drawn::Refused(why) => print::refused_to(errors, why, 0),
     }
 }
 
 // One line of the frame, and the frame behind it.
-fn row_of(board: Board, frame: Frame, mem: &[u8]) -> Frame {
+fn row_of<R: Print, E: Print>(
+    rt: &R,
+    errors: &E,
+    board: Board,
+    frame: Frame,
+    mem: &[u8],
+) -> io::Result<Frame> {
     let next = frame.next_line(mem);
     let report = next.report;
     match report {
-        LineReport::Line(s) => row(board, s, mem),
-        LineReport::Refused(why) => print::refused_to(2, why, 0),
+        LineReport::Line(s) => row(rt, errors, board, s, mem)?,
+        LineReport::Refused(why) => print::refused_to(errors, why, 0)?,
     }
-    next.frame
+    Ok(next.frame)
 }
 
-fn rows(board: Board, start: Frame, mem: &[u8]) {
+fn rows<R: Print, E: Print>(
+    rt: &R,
+    errors: &E,
+    board: Board,
+    start: Frame,
+    mem: &[u8],
+) -> io::Result<()> {
     let mut frame = start;
     for i in 0..Frame::LINES {
-        frame = row_of(board, frame, mem);
+        frame = row_of(rt, errors, board, frame, mem)?;
     }
+    Ok(())
 }
 
 // A board that is pointed at the list, by its registers.
@@ -142,14 +163,20 @@ fn pointed(list: u32, video: u8) -> Board {
 }
 
 // The picture of the frame that the list at an address gives.
-pub fn write(mem: &[u8], list: u32, video: u8) {
+pub fn write<R: Print, E: Print>(
+    rt: &R,
+    errors: &E,
+    mem: &[u8],
+    list: u32,
+    video: u8,
+) -> io::Result<()> {
     let board = pointed(list, video);
     let told = Frame::start(board);
     match told {
-        FrameStart::Refused(why) => print::refused_to(2, why, 0),
+        FrameStart::Refused(why) => print::refused_to(errors, why, 0),
         FrameStart::Started(frame) => {
-            print::text(b"P6\n672 240\n255\n");
-            rows(board, frame, mem);
+            print::text(rt, b"P6\n672 240\n255\n")?;
+            rows(rt, errors, board, frame, mem)
         }
     }
 }

@@ -1,3 +1,4 @@
 -- Laws of the text.
+mod Counting
 mod Line
 mod Once

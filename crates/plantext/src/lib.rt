@@ -3,13 +3,14 @@
 
 pub mod files;
 
-ghost use Rattle.std.specs.Prelude.{◌≡◌, ◌++◌, ◌*◌, ◌≤◌, ◌<◌, length, drop};
-ghost use Rattle.io.specs.Counts.{IsPrefixLen};
+ghost use Rattle.std.specs.Prelude.{◌≡◌, ◌++◌, ◌*◌, ◌≤◌, ◌<◌, length, drop, IfOk, OnErr};
 ghost use Rattle.plan.specs.Compile.{compile_answer, compile_output};
+ghost use Rattle.plantext.specs.Counts.{IsPrefixLen};
 ghost use Rattle.plantext.specs.Hex.{digit_of, behind_of, hex_of, hex_line};
 ghost use Rattle.plantext.specs.Listed.{list_size};
 
 use plan::Compiled;
+use std::io;
 
 // A hex digit in upper case.
 fn digit(n: u8) -> u8
@@ -32,7 +33,7 @@ fn put_hex(text: &mut [u8], b: u8, last: bool)
     ensures { text.new ≡ hex_of b last ++ drop 3 text.old }
 {
     let three = [digit(b / 16), digit(b % 16), behind(last)];
-    bytes::copy(&three, text);
+    text[..3].copy_from_slice(&three);
 }
 
 // The bytes in hex, in a line.
@@ -50,13 +51,13 @@ fn put_line(text: &mut [u8], s: &[u8])
 }
 
 // One record in a line of its own; it has 22 bytes at most.
-fn print_record(s: &[u8])
+fn print_record<R: Print>(rt: &R, s: &[u8]) -> io::Result<()>
     requires { length s.now ≤ 22 }
 {
     let mut text = [0u8; 66];
     put_line(&mut text, s);
     let n = 3 * s.len();
-    print::text(&text[0..n]);
+    print::text(rt, &text[0..n])
 }
 
 // How many bytes a compiled record has, by its first control byte: only a full band's has OVADR.
@@ -67,52 +68,54 @@ fn record_size(control: u8) -> usize
 }
 
 // Each record of a list. Its bytes come record by record, so the last is whole.
-fn print_records(list: &[u8]) {
+fn print_records<R: Print>(rt: &R, list: &[u8]) -> io::Result<()> {
     let mut at = 0;
     while at < list.len() {
         let size = record_size(list[at]);
         if list.len() - at < size {
-            return;
+            return Ok(());
         }
         let next = at + size;
-        print_record(&list[at..next]);
+        print_record(rt, &list[at..next])?;
         at = next;
     }
+    Ok(())
 }
 
 // Compiles into the buffer, of which the list fills so many bytes; 0, which no list has, where the plan is refused. The refusal
-// goes to a file descriptor.
-pub fn compiled(plan: &[u8], list: &mut [u8], refusals: i32) -> usize
-    ensures prefix_len { IsPrefixLen result list.new }
-    ensures bytes { result ≡ list_size (compile_answer plan.now (length list.old)) }
+// is printed where the caller says. Where it cannot be, that is the error; the buffer is then as after any refusal.
+pub fn compiled<P: Print>(plan: &[u8], list: &mut [u8], refusals: &P) -> io::Result<usize>
+    ensures prefix_len { IfOk result (λ n. IsPrefixLen n list.new) }
+    ensures bytes { IfOk result (λ n. n ≡ list_size (compile_answer plan.now (length list.old))) }
     ensures list { list.new ≡ compile_output plan.now list.old }
+    ensures unprinted { OnErr result (list_size (compile_answer plan.now (length list.old)) ≡ 0) }
 {
     let r = plan::compile(plan, list);
     match r {
         Compiled::Refused(why, item) => {
-            print::refused_to(refusals, why, item);
-            0
+            print::refused_to(refusals, why, item)?;
+            Ok(0)
         }
-        Compiled::Done(bytes) => bytes,
+        Compiled::Done(bytes) => Ok(bytes),
     }
 }
 
 // A plan's list as text, or its refusal. A list has 5,280 bytes at most.
-pub fn print_list(plan: &[u8]) {
+pub fn print_list<R: Print>(rt: &R, plan: &[u8]) -> io::Result<()> {
     let mut list = [0u8; 5280];
-    let n = compiled(plan, &mut list, 1);
+    let n = compiled(plan, &mut list, rt)?;
     if n == 0 {
-        return;
+        return Ok(());
     }
-    print::text(b"XDL ");
-    print::number(n as u64);
-    print::text(b"\n");
-    print_records(&list[..n]);
+    print::text(rt, b"XDL ")?;
+    print::number(rt, n as u64)?;
+    print::text(rt, b"\n")?;
+    print_records(rt, &list[..n])
 }
 
 // The list's bytes. A refusal goes to standard error: nothing but a list is written.
-pub fn write_list(plan: &[u8]) {
+pub fn write_list<R: Print, E: Print>(rt: &R, errors: &E, plan: &[u8]) -> io::Result<()> {
     let mut list = [0u8; 5280];
-    let n = compiled(plan, &mut list, 2);
-    print::text(&list[..n]);
+    let n = compiled(plan, &mut list, errors)?;
+    print::text(rt, &list[..n])
 }

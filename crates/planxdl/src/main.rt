@@ -2,72 +2,84 @@
 #![tactic(auto)]
 
 use plantext::files;
+use std::env::Env;
+use std::io;
+use std::rt::Files;
 
-fn usage(fd: i32) {
-    io::write_all(
-        fd,
+fn usage<P: Print>(to: &P) -> io::Result<()> {
+    print::text(
+        to,
         b"usage: planxdl [FILE..]\n       planxdl --bytes [FILE]\n",
-    );
+    )
 }
 
-fn help() {
-    usage(1);
-    io::write_all(
-        1,
+fn help<R: Print>(rt: &R) -> io::Result<()> {
+    usage(rt)?;
+    print::text(
+        rt,
         b"Reads a plan, from standard input where no FILE is named, and prints its display\n",
-    );
-    io::write_all(
-        1,
+    )?;
+    print::text(
+        rt,
         b"list: a line with the number of bytes, then one line a record in hex. A plan\n",
-    );
-    io::write_all(
-        1,
+    )?;
+    print::text(
+        rt,
         b"that is refused prints the number of the refusal and the item (docs/HELP.md).\n",
-    );
-    io::write_all(
-        1,
+    )?;
+    print::text(
+        rt,
         b"Before each of several lists stands a line with the file's name.\n",
-    );
-    io::write_all(
-        1,
+    )?;
+    print::text(
+        rt,
         b"--bytes writes the list itself, and a refusal to standard error.\n",
-    );
-    io::write_all(
-        1,
+    )?;
+    print::text(
+        rt,
         b"Beside it: planlines prints what each line of a plan shows; desk-run, at the top\n",
-    );
-    io::write_all(
-        1,
+    )?;
+    print::text(
+        rt,
         b"of the repository, builds a program and runs it: ./desk-run planlines --help\n",
-    );
+    )
 }
 
 // --bytes, with a file or without.
-fn bytes(arguments: usize) {
+fn bytes<R: Env + Files + Input + Print, E: Print>(
+    rt: &R,
+    errors: &E,
+    arguments: usize,
+) -> io::Result<()> {
     match arguments {
-        2 => files::write_file(0),
-        3 => files::write_file(2),
-        _ => usage(2),
+        2 => files::write_file(rt, errors, 0),
+        3 => files::write_file(rt, errors, 2),
+        _ => usage(errors),
     }
 }
 
-fn texts(arguments: usize) {
+fn texts<R: Env + Files + Input + Print, E: Print>(
+    rt: &R,
+    errors: &E,
+    arguments: usize,
+) -> io::Result<()> {
     match arguments {
-        0 | 1 => files::list_file(0, b""),
-        2 => files::list_file(1, b""),
-        _ => files::list_files(b"\n"),
+        0 | 1 => files::list_file(rt, errors, 0, b""),
+        2 => files::list_file(rt, errors, 1, b""),
+        _ => files::list_files(rt, errors, b"\n"),
     }
 }
 
-fn main() {
-    let arguments = os::arg_count();
-    if files::is(1, b"--help") {
-        help();
-    } else if files::is(1, b"--bytes") {
-        bytes(arguments);
-    } else if files::is_option(1) {
-        usage(2);
+fn main(rt: HostRuntime) -> io::Result<()> {
+    let errors = rt.stderr();
+    let arguments = files::count(&rt);
+    if files::is(&rt, 1, b"--help") {
+        help(&rt)
+    } else if files::is(&rt, 1, b"--bytes") {
+        bytes(&rt, &errors, arguments)
+    } else if files::is_option(&rt, 1) {
+        usage(&errors)
     } else {
-        texts(arguments);
+        texts(&rt, &errors, arguments)
     }
 }

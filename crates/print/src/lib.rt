@@ -1,16 +1,18 @@
-// What the programs print, on standard output.
+// What the programs print. Each function takes what it prints to: a runtime is standard output, its stderr() standard error. An error is
+// one of writing; what it leaves of the text may stand there in part.
 #![tactic(auto)]
 
 ghost use Rattle.std.specs.Prelude.{◌<◌};
 
 use refusal::Refusal;
+use std::io;
 
-pub fn text(s: &[u8]) {
-    io::write_all(1, s);
+pub fn text<P: Print>(to: &P, s: &[u8]) -> io::Result<()> {
+    to.write_all(s)
 }
 
-pub fn number(n: u64) {
-    io::print_decimal(1, n);
+pub fn number<P: Print>(to: &P, n: u64) -> io::Result<()> {
+    to.print(n)
 }
 
 // One digit of sixteen, in upper case.
@@ -21,26 +23,27 @@ fn digit(n: u8) -> u8
 }
 
 // A byte as two digits.
-pub fn hex(b: u8) {
+pub fn hex<P: Print>(to: &P, b: u8) -> io::Result<()> {
     let two = [digit(b / 16), digit(b % 16)];
-    io::write_all(1, &two);
+    text(to, &two)
 }
 
 // A space, and a byte as two digits.
-fn spaced(b: u8) {
-    text(b" ");
-    hex(b);
+fn spaced<P: Print>(to: &P, b: u8) -> io::Result<()> {
+    text(to, b" ")?;
+    hex(to, b)
 }
 
 // Bytes, a space before each.
-pub fn bytes(s: &[u8]) {
-    for i in 0..s.len() {
-        spaced(s[i]);
+pub fn bytes<P: Print>(to: &P, s: &[u8]) -> io::Result<()> {
+    for b in s {
+        spaced(to, *b)?;
     }
+    Ok(())
 }
 
 // The 20 low bits of an address, as five digits.
-pub fn address(a: u32) {
+pub fn address<P: Print>(to: &P, a: u32) -> io::Result<()> {
     let five = [
         digit((a / 65536 % 16) as u8),
         digit((a / 4096 % 16) as u8),
@@ -48,19 +51,19 @@ pub fn address(a: u32) {
         digit((a / 16 % 16) as u8),
         digit((a % 16) as u8),
     ];
-    io::write_all(1, &five);
+    text(to, &five)
 }
 
-// A refusal as the desk prints it, in a line, to a file descriptor.
-pub fn refused_to(fd: i32, why: Refusal, item: u32) {
-    io::write_all(fd, b"refused ");
-    io::print_decimal(fd, why.number() as u64);
-    io::write_all(fd, b" item ");
-    io::print_decimal(fd, item as u64);
-    io::write_all(fd, b"\n");
+// A refusal as the desk prints it, in a line.
+pub fn refused_to<P: Print>(to: &P, why: Refusal, item: u32) -> io::Result<()> {
+    text(to, b"refused ")?;
+    number(to, why.number() as u64)?;
+    text(to, b" item ")?;
+    number(to, item as u64)?;
+    text(to, b"\n")
 }
 
-// On standard output.
-pub fn refused(why: Refusal, item: u32) {
-    refused_to(1, why, item);
+// On a runtime's standard output.
+pub fn refused<R: Print>(rt: &R, why: Refusal, item: u32) -> io::Result<()> {
+    refused_to(rt, why, item)
 }
