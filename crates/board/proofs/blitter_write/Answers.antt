@@ -1,7 +1,6 @@
 -- `board::blitter_write` meets its contract. Assumes nothing.
 use borrow.Author.Tests.{eq-eqb, ne_eqb}
 use Rattle.board.specs.Board.{blitter_written}
-use borrow.Author.Rules.{rules}
 use Rattle.board.proofs.blitter_write.Goals as goal
 
 pub returns-then-value-eq1 : goal.returns-then-value-eq1

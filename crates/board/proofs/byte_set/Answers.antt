@@ -1,6 +1,5 @@
 -- `board::byte_set` meets its contract: one arm a byte. Assumes nothing.
 use borrow.Author.Tests.{ne_eqb}
-use borrow.Author.Rules.{rules}
 use Rattle.board.proofs.byte_set.Goals as goal
 
 pub returns-in-0 : goal.returns-in-0

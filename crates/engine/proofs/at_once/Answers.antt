@@ -1,7 +1,6 @@
 -- `engine::at_once` meets its contract. Assumes nothing.
 use mathlib.Core.Path.{refl, sym, ◌∙◌}
 use lib.Dec.{leb}
-use borrow.Author.Rules.{rules}
 use Rattle.laws.proofs.Choice.{both}
 use Rattle.blitter.proofs.Sound.{first_inside}
 use Rattle.engine.proofs.at_once.Goals as goal

@@ -1,5 +1,4 @@
 -- `engine::burst` meets its contract. Assumes nothing.
-use borrow.Author.Rules.{rules}
 use Rattle.engine.proofs.burst.Goals as goal
 
 pub burst_flat-requires : goal.burst_flat-requires

@@ -1,13 +1,8 @@
 -- `engine::burst_each` meets its contract. The invariant is `Bursting`, at a place that is what it should be. Assumes nothing.
-use mathlib.Core.Path.{◌≡◌, refl}
-use Prim.Native.Nat.{◌+◌, ◌-◌, ◌<◌}
-use native.Mathlib.Omega.{arith}
-use Rattle.block.proofs.Sizes.{columns_small, rows_small}
-use Rattle.stretch.specs.Stretch.{trace}
-use Rattle.engine.specs.Tick.{ended}
-use Rattle.engine.specs.Engine.{place_at, Placed, BurstTo}
-use Rattle.engine.proofs.Reaching.{reach_small}
-use Rattle.engine.proofs.Bursts.{Bursting, Stretched, burst_start, burst_used, reach_less, placed_in, stretched, stretch_made, stretch_done, last_placed, burst_col, burst_row, burst_end}
+use mathlib.Core.Path.{◌≡◌}
+use Prim.Native.Nat.{◌-◌}
+use Rattle.engine.specs.Engine.{place_at}
+use Rattle.engine.proofs.Bursts.{Bursting}
 use Rattle.engine.proofs.burst_each.Given as goal
 
 abbrev pub invariant-loop-done : goal.invariant-loop-done

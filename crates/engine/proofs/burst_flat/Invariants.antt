@@ -1,13 +1,8 @@
 -- `engine::burst_flat` meets its contract. The invariant is `Turned`, at a place that is what it should be. Assumes nothing.
-use mathlib.Core.Path.{◌≡◌, refl}
-use Prim.Native.Nat.{◌-◌, ◌<◌}
-use native.Mathlib.Omega.{arith}
-use Rattle.block.proofs.Sizes.{columns_small, rows_small}
-use Rattle.stretch.specs.Stretch.{trace}
+use mathlib.Core.Path.{◌≡◌}
+use Prim.Native.Nat.{◌-◌}
 use Rattle.engine.specs.Engine.{place_at}
-use Rattle.engine.proofs.Reaching.{reach_small}
-use Rattle.engine.proofs.Bursts.{Stretched, placed_in, stretch_made, stretch_done}
-use Rattle.engine.proofs.FlatBursts.{Turned, turned_start, turned_room, turned_going, turned_left, turned_on, at_once}
+use Rattle.engine.proofs.FlatBursts.{Turned}
 use Rattle.engine.proofs.burst_flat.Given as goal
 
 abbrev pub invariant-loop-place : goal.invariant-loop-place

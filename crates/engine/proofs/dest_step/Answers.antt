@@ -1,6 +1,5 @@
 -- `engine::dest_step` meets its contract. Assumes nothing.
 use mathlib.Core.Path.{sym, ◌∙◌}
-use borrow.Author.Rules.{rules}
 use Rattle.engine.proofs.dest_step.Goals as goal
 
 pub returns-then-tall : goal.returns-then-tall

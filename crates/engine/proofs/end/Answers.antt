@@ -1,7 +1,6 @@
 -- `engine::end` meets its contract. Assumes nothing.
 use Rattle.engine.specs.Tick.{ended}
 use mathlib.Core.Path.{sym, ◌∙◌}
-use borrow.Author.Rules.{rules}
 use Rattle.engine.proofs.end.Goals as goal
 
 pub returns-then-next : goal.returns-then-next

@@ -1,7 +1,6 @@
 -- `engine::load` meets its contract: reducing the address first changes nothing. Assumes nothing.
 use native.Mathlib.Nat.{mod-add-mod}
 use Rattle.engine.specs.Tick.{load_tick}
-use borrow.Author.Rules.{rules}
 use Rattle.engine.proofs.load.Goals as goal
 
 pub returns : goal.returns

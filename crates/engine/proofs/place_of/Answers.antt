@@ -3,7 +3,6 @@ use native.Mathlib.Nat.{mod-le, div-le_self}
 use native.Mathlib.Omega.{arith}
 use Prim.Native.Nat.{◌/◌}
 use Rattle.block.proofs.Sizes.{pattern_pos}
-use borrow.Author.Rules.{rules}
 use Rattle.engine.proofs.place_of.Goals as goal
 
 pub overflow_cast-result-3 : goal.overflow_cast-result-3

@@ -1,7 +1,6 @@
 -- `engine::run_for` meets its contract. The invariant is `Going`. Assumes nothing.
-use Prim.Native.Nat.{◌-◌}
 use native.Mathlib.Omega.{arith}
-use Rattle.engine.proofs.Going.{Going, going_start, going_used, going_idle, going_load, going_busy, going_burst}
+use Rattle.engine.proofs.Going.{going_start, going_used, going_idle, going_load, going_busy, going_burst}
 use Rattle.engine.proofs.run_for.Goals as goal
 
 pub loop-ticks-init : goal.loop-ticks-init

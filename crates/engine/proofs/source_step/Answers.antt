@@ -1,7 +1,6 @@
 -- `engine::source_step` meets its contract. Assumes nothing.
 use mathlib.Core.Path.{sym, ◌∙◌}
 use borrow.Author.Tests.{eq-eqb, ne_eqb}
-use borrow.Author.Rules.{rules}
 use Rattle.engine.proofs.source_step.Goals as goal
 
 pub returns-then-tall : goal.returns-then-tall

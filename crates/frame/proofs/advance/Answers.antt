@@ -1,5 +1,4 @@
 -- `frame::advance` meets its contract: the settings advance as they promise. Assumes nothing.
-use borrow.Author.Rules.{rules}
 use Rattle.frame.proofs.advance.Goals as goal
 
 pub returns : goal.returns

@@ -1,7 +1,6 @@
 -- `frame::fetch` meets its contract, a case of the definition at each return. Assumes nothing.
 use mathlib.Core.Path.{sym, ◌∙◌}
 use Rattle.frame.proofs.Cases.{fetched_repeat, fetched_end, fetched_record}
-use borrow.Author.Rules.{rules}
 use Rattle.frame.proofs.fetch.Goals as goal
 
 pub returns-then-reader-gt0 : goal.returns-then-reader-gt0

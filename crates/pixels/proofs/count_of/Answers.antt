@@ -1,7 +1,6 @@
 -- `pixels::count_of` meets its contract: a row of the table at each mode. Assumes nothing.
 use Rattle.pixels.proofs.Counts.{count_else}
 use Rattle.pixels.specs.Pixels.{pixel_count}
-use borrow.Author.Rules.{rules}
 use Rattle.pixels.proofs.count_of.Goals as goal
 
 pub returns-in-1 : goal.returns-in-1

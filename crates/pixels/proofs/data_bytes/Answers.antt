@@ -1,5 +1,4 @@
 -- `pixels::data_bytes` meets its contract: a row of the table at each mode. Assumes nothing.
-use borrow.Author.Rules.{rules}
 use Rattle.pixels.specs.Reads.{data_bytes}
 use Rattle.pixels.proofs.Counts.{bytes_else}
 use Rattle.pixels.proofs.data_bytes.Goals as goal

@@ -3,7 +3,6 @@ use mathlib.Core.Path.{sym, ◌∙◌}
 use native.Mathlib.Omega.{arith}
 use borrow.Author.Tests.{not-true, not-false}
 use Rattle.pixels.proofs.Answer.{draw_board, draw_state, draw_unsound, draw_short, draw_done}
-use borrow.Author.Rules.{rules}
 use Rattle.pixels.proofs.draw.Goals as goal
 
 pub returns-then-not-good_length : goal.returns-then-not-good_length

@@ -3,7 +3,6 @@ use native.Mathlib.Omega.{arith}
 use Rattle.vram.proofs.Length.{good}
 use Rattle.pixels.proofs.Filling.{front_size, front_room}
 use Rattle.pixels.proofs.Piece.{read_most, inside, gathered}
-use borrow.Author.Rules.{rules}
 use Rattle.pixels.proofs.fill.Goals as goal
 
 pub paint-requires : goal.paint-requires

@@ -4,7 +4,6 @@ use native.Mathlib.Omega.{arith}
 use Rattle.settings.proofs.Sound.{settings_fit}
 use Rattle.pixels.proofs.Counts.{count_most}
 use Rattle.pixels.proofs.Modes.{text_bounds, hr_bytes, sr_bytes, text_filled, nibbles_filled, bytes_filled}
-use borrow.Author.Rules.{rules}
 use Rattle.pixels.proofs.paint.Goals as goal
 
 pub fill-requires : goal.fill-requires

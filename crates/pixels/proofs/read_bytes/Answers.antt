@@ -4,7 +4,6 @@ use Prim.Native.Nat.{ℕ, ◌+◌}
 use native.Mathlib.Nat.{add-zero}
 use native.Mathlib.Omega.{arith}
 use Rattle.pixels.proofs.Counts.{bytes_most}
-use borrow.Author.Rules.{rules}
 use Rattle.pixels.proofs.read_bytes.Goals as goal
 
 pub overflow_add-result : goal.overflow_add-result

@@ -2,7 +2,6 @@
 use mathlib.Core.Path.{sym, ◌∙◌}
 use borrow.Author.Tests.{not-true, not-false}
 use Rattle.board.proofs.Answer.{read_state, read_register, read_done}
-use borrow.Author.Rules.{rules}
 use Rattle.board.proofs.Board.read.Goals as goal
 
 pub returns-then-not-sound : goal.returns-then-not-sound

@@ -2,7 +2,6 @@
 use borrow.Author.Tests.{ne_eqb}
 use Rattle.laws.proofs.Choice.{bool_byte_lem}
 use Rattle.board.specs.Board.{read_byte}
-use borrow.Author.Rules.{rules}
 use Rattle.board.proofs.Board.read_byte.Goals as goal
 
 pub returns-in-64 : goal.returns-in-64

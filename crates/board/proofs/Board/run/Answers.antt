@@ -2,7 +2,6 @@
 use mathlib.Core.Path.{sym, ◌∙◌}
 use borrow.Author.Tests.{not-true, not-false}
 use Rattle.board.proofs.Answer.{no_board, no_ports, as_blitter}
-use borrow.Author.Rules.{rules}
 use Rattle.board.proofs.Board.run.Goals as goal
 
 pub returns-then-not-good_length : goal.returns-then-not-good_length

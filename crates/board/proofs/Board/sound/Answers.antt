@@ -1,6 +1,5 @@
 -- `Board::sound` meets its contract. Assumes nothing.
 use Rattle.board.specs.Board.{sound_board}
-use borrow.Author.Rules.{rules}
 use Rattle.board.proofs.Board.sound.Goals as goal
 
 pub returns : goal.returns

@@ -1,7 +1,6 @@
 -- `Board::tick` meets its contract: a run with a budget of 1 is one tick. Assumes nothing.
 use mathlib.Core.Path.{◌∙◌}
 use Rattle.board.proofs.Answer.{tick_answer_lem, tick_board_lem, tick_memory_lem}
-use borrow.Author.Rules.{rules}
 use Rattle.board.proofs.Board.tick.Goals as goal
 
 pub returns : goal.returns

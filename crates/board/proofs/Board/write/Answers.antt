@@ -2,7 +2,6 @@
 use mathlib.Core.Path.{sym, ◌∙◌}
 use borrow.Author.Tests.{not-true, not-false}
 use Rattle.board.proofs.Answer.{write_state, write_register, write_done}
-use borrow.Author.Rules.{rules}
 use Rattle.board.proofs.Board.write.Goals as goal
 
 pub returns-then-not-sound : goal.returns-then-not-sound

@@ -1,7 +1,6 @@
 -- `Ports::write` meets its contract: one arm a register. Assumes nothing.
 use Rattle.board.specs.Ports.{ports_written}
 use Rattle.board.proofs.Written.{below_written, xdladr_written, between_written, bladr_written, above_written}
-use borrow.Author.Rules.{rules}
 use Rattle.board.proofs.Ports.write.Goals as goal
 
 pub returns-in-64 : goal.returns-in-64

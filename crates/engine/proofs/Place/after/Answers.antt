@@ -2,7 +2,6 @@
 use mathlib.Core.Path.{◌∙◌}
 use Prim.Native.Nat.{◌<◌}
 use native.Mathlib.Omega.{arith}
-use borrow.Author.Rules.{rules}
 use Rattle.block.proofs.Sizes.{columns_small, rows_small}
 use Rattle.engine.proofs.Bursts.{reach_less}
 use Rattle.engine.proofs.Reaching.{last_at, last_inside, behind_col, behind_row}

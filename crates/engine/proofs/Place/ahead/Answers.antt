@@ -7,7 +7,6 @@ use Rattle.block.proofs.Sizes.{columns_small, rows_small}
 use Rattle.engine.specs.Engine.{tall_of}
 use Rattle.engine.proofs.Following.{across_small, sourcerow_small, sourcecol_small}
 use Rattle.engine.proofs.Reaching.{row_room, col_room, ahead_down, ahead_plain, ahead_zoomed}
-use borrow.Author.Rules.{rules}
 use Rattle.engine.proofs.Place.ahead.Goals as goal
 
 pub overflow_add-self : goal.overflow_add-self

@@ -2,7 +2,6 @@
 use native.Mathlib.Omega.{arith}
 use mathlib.Core.Path.{sym}
 use Rattle.engine.proofs.Following.{across_small, sourcecol_small, same_column, next_column, first_column}
-use borrow.Author.Rules.{rules}
 use Rattle.engine.proofs.Place.next_col.Goals as goal
 
 pub overflow_add-self-2 : goal.overflow_add-self-2

@@ -2,7 +2,6 @@
 use native.Mathlib.Omega.{arith}
 use mathlib.Core.Path.{sym}
 use Rattle.engine.proofs.Following.{down_small, sourcerow_small, same_row, below_row}
-use borrow.Author.Rules.{rules}
 use Rattle.engine.proofs.Place.next_row.Goals as goal
 
 pub overflow_add-self-2 : goal.overflow_add-self-2

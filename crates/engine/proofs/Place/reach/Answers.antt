@@ -4,7 +4,6 @@ use mathlib.Core.Bool.{false}
 use native.Mathlib.Omega.{arith}
 use Rattle.engine.specs.Engine.{tall_of}
 use Rattle.engine.proofs.Reaching.{across_in, sourcecol_in, reach_down, reach_plain, reach_zoomed}
-use borrow.Author.Rules.{rules}
 use Rattle.engine.proofs.Place.reach.Goals as goal
 
 pub overflow_sub-result : goal.overflow_sub-result

@@ -4,7 +4,6 @@ use Prim.Native.Nat.{◌<◌}
 use native.Mathlib.Omega.{arith}
 use Rattle.block.proofs.Sizes.{columns_small, rows_small}
 use Rattle.engine.proofs.Following.{source_is, sourcerow_small, sourcecol_small}
-use borrow.Author.Rules.{rules}
 use Rattle.engine.proofs.Place.stretch.Goals as goal
 
 pub overflow_cast-self : goal.overflow_cast-self

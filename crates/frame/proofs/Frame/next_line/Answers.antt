@@ -2,7 +2,6 @@
 use mathlib.Core.Path.{sym, ◌∙◌}
 use borrow.Author.Tests.{not-true, not-false}
 use Rattle.frame.proofs.Cases.{line_board, line_state, line_over, line_on, line_off}
-use borrow.Author.Rules.{rules}
 use Rattle.frame.proofs.Frame.next_line.Goals as goal
 
 pub returns-then-not-good_length : goal.returns-then-not-good_length

@@ -1,5 +1,4 @@
 -- `frame::Frame::sound` meets its contract: the settings are sound, and the other tests are its own. Assumes nothing.
-use borrow.Author.Rules.{rules}
 use Rattle.frame.proofs.Frame.sound.Goals as goal
 
 pub returns : goal.returns

@@ -2,7 +2,6 @@
 use mathlib.Core.Path.{sym, ◌∙◌}
 use borrow.Author.Tests.{not-true, not-false}
 use Rattle.frame.proofs.Cases.{start_state, start_given}
-use borrow.Author.Rules.{rules}
 use Rattle.frame.proofs.Frame.start.Goals as goal
 
 pub returns-then-not-sound : goal.returns-then-not-sound

@@ -1,12 +1,11 @@
 -- `pixels::fills::bytes` meets its contract. The loop's invariant is `Filling`. Assumes nothing.
 use mathlib.Core.Path.{◌≡◌, subst}
-use Prim.Native.Nat.{ℕ, ◌-◌, ◌≤◌}
+use Prim.Native.Nat.{ℕ}
 use native.Mathlib.Omega.{arith}
 use lib.ListN.{length}
-use borrow.Author.Rules.{rules}
 use Rattle.pixels.specs.Draw.{filled}
 use Rattle.pixels.specs.Fills.{byte_pixel}
-use Rattle.pixels.proofs.Filling.{Filling, filling_start, filling_one, filling_end}
+use Rattle.pixels.proofs.Filling.{filling_start, filling_one, filling_end}
 use Rattle.pixels.proofs.Pixel.{byte_drawn}
 use Rattle.pixels.proofs.fills.bytes.Goals as goal
 

@@ -1,6 +1,5 @@
 -- `pixels::fills::data_byte` meets its contract. Assumes nothing.
 use mathlib.Core.Path.{◌∙◌}
-use borrow.Author.Rules.{rules}
 use Rattle.pixels.proofs.Pixel.{byte_reduced}
 use Rattle.pixels.proofs.fills.data_byte.Goals as goal
 

@@ -1,10 +1,10 @@
 -- `pixels::fills::gather` meets its contract. The loop's invariant is `Filling`. Assumes nothing.
 use mathlib.Core.Path.{◌≡◌, subst}
-use Prim.Native.Nat.{ℕ, ◌-◌, ◌≤◌}
+use Prim.Native.Nat.{ℕ}
 use native.Mathlib.Omega.{arith}
 use Rattle.vram.specs.Memory.{byte_at}
 use Rattle.pixels.specs.Draw.{filled}
-use Rattle.pixels.proofs.Filling.{Filling, filling_start, filling_one, filling_end}
+use Rattle.pixels.proofs.Filling.{filling_start, filling_one, filling_end}
 use Rattle.pixels.proofs.fills.gather.Goals as goal
 
 pub loop-k-init : goal.loop-k-init

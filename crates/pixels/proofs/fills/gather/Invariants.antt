@@ -1,10 +1,7 @@
 -- `pixels::fills::gather` meets its contract. The loop's invariant is `Filling`. Assumes nothing.
-use mathlib.Core.Path.{◌≡◌, subst}
-use Prim.Native.Nat.{ℕ, ◌-◌, ◌≤◌}
-use native.Mathlib.Omega.{arith}
+use Prim.Native.Nat.{◌-◌, ◌≤◌}
 use Rattle.vram.specs.Memory.{byte_at}
-use Rattle.pixels.specs.Draw.{filled}
-use Rattle.pixels.proofs.Filling.{Filling, filling_start, filling_one, filling_end}
+use Rattle.pixels.proofs.Filling.{Filling}
 use Rattle.pixels.proofs.fills.gather.Given as goal
 
 abbrev pub invariant-loop-k : goal.invariant-loop-k

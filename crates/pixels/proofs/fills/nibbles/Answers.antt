@@ -1,7 +1,6 @@
 -- `pixels::fills::nibbles` meets its contract: its colours, drawn as bytes. Assumes nothing.
 use mathlib.Core.Path.{◌∙◌}
 use native.Mathlib.Omega.{arith}
-use borrow.Author.Rules.{rules}
 use Rattle.pixels.proofs.Filling.{front_is, front_size}
 use Rattle.pixels.proofs.Pixel.{nibbles_drawn}
 use Rattle.pixels.proofs.fills.nibbles.Goals as goal

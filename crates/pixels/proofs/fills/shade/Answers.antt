@@ -1,6 +1,5 @@
 -- `pixels::fills::shade` meets its contract. Assumes nothing.
 use mathlib.Core.Path.{sym, ◌∙◌}
-use borrow.Author.Rules.{rules}
 use borrow.Author.Tests.{ne_eqb}
 use Rattle.pixels.proofs.fills.shade.Goals as goal
 

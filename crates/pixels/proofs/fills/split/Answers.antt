@@ -1,6 +1,6 @@
 -- `pixels::fills::split` meets its contract. The loop's invariant is `Filling`, two colours a byte. Assumes nothing.
 use mathlib.Core.Path.{◌≡◌, subst}
-use Prim.Native.Nat.{ℕ, ◌+◌, ◌-◌, ◌*◌, ◌≤◌}
+use Prim.Native.Nat.{ℕ, ◌+◌, ◌*◌}
 use native.Mathlib.Omega.{arith}
 use lib.ListN.{length, length-set}
 use Rattle.pixels.specs.Draw.{filled}

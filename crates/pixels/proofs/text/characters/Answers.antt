@@ -1,11 +1,10 @@
 -- `pixels::text::characters` meets its contract. The loop's invariant is `Filling`, eight pixels a character. Assumes nothing.
 use mathlib.Core.Path.{◌≡◌, refl, subst}
-use Prim.Native.Nat.{ℕ, ◌+◌, ◌-◌, ◌*◌, ◌≤◌}
+use Prim.Native.Nat.{ℕ, ◌+◌, ◌*◌}
 use native.Mathlib.Omega.{arith}
-use borrow.Author.Rules.{rules}
 use Rattle.pixels.specs.Pixels.{each}
 use Rattle.pixels.specs.Draw.{filled}
-use Rattle.pixels.specs.Fills.{lit_table, column_pixel}
+use Rattle.pixels.specs.Fills.{column_pixel}
 use Rattle.pixels.proofs.Filling.{Filling, filling_start, filling_part, part_room, filling_end}
 use Rattle.pixels.proofs.Pixel.{column_whole}
 use Rattle.pixels.proofs.text.characters.Goals as goal

@@ -1,13 +1,8 @@
 -- `pixels::text::characters` meets its contract. The loop's invariant is `Filling`, eight pixels a character. Assumes nothing.
-use mathlib.Core.Path.{◌≡◌, refl, subst}
-use Prim.Native.Nat.{ℕ, ◌+◌, ◌-◌, ◌*◌, ◌≤◌}
-use native.Mathlib.Omega.{arith}
-use borrow.Author.Rules.{rules}
-use Rattle.pixels.specs.Pixels.{each}
-use Rattle.pixels.specs.Draw.{filled}
+use mathlib.Core.Path.{◌≡◌}
+use Prim.Native.Nat.{◌-◌, ◌*◌, ◌≤◌}
 use Rattle.pixels.specs.Fills.{lit_table, column_pixel}
-use Rattle.pixels.proofs.Filling.{Filling, filling_start, filling_part, part_room, filling_end}
-use Rattle.pixels.proofs.Pixel.{column_whole}
+use Rattle.pixels.proofs.Filling.{Filling}
 use Rattle.pixels.proofs.text.characters.Given as goal
 
 abbrev pub invariant-loop-c : goal.invariant-loop-c

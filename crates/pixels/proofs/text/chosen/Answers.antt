@@ -1,7 +1,6 @@
 -- `pixels::text::chosen` meets its contract. Assumes nothing.
 use Prim.Native.Nat.{◌-◌}
 use native.Mathlib.Omega.{arith}
-use borrow.Author.Rules.{rules}
 use Rattle.pixels.proofs.Inks.{chosen_is, once_most, sum_most}
 use Rattle.pixels.proofs.text.chosen.Goals as goal
 

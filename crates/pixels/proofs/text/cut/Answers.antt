@@ -1,11 +1,10 @@
 -- `pixels::text::cut` meets its contract. The loop's invariant is `Filling`. Assumes nothing.
 use mathlib.Core.Path.{◌≡◌, ◌∙◌, subst}
-use Prim.Native.Nat.{ℕ, ◌+◌, ◌-◌, ◌≤◌}
+use Prim.Native.Nat.{ℕ, ◌+◌}
 use native.Mathlib.Omega.{arith}
-use borrow.Author.Rules.{rules}
 use Rattle.pixels.specs.Draw.{filled}
 use Rattle.pixels.specs.Fills.{glyph_pixel}
-use Rattle.pixels.proofs.Filling.{Filling, filled_same, filling_start, filling_one, filling_end}
+use Rattle.pixels.proofs.Filling.{filled_same, filling_start, filling_one, filling_end}
 use Rattle.pixels.proofs.Pixel.{column_part}
 use Rattle.pixels.proofs.text.cut.Goals as goal
 

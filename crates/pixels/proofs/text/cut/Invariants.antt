@@ -1,12 +1,7 @@
 -- `pixels::text::cut` meets its contract. The loop's invariant is `Filling`. Assumes nothing.
-use mathlib.Core.Path.{◌≡◌, ◌∙◌, subst}
-use Prim.Native.Nat.{ℕ, ◌+◌, ◌-◌, ◌≤◌}
-use native.Mathlib.Omega.{arith}
-use borrow.Author.Rules.{rules}
-use Rattle.pixels.specs.Draw.{filled}
+use Prim.Native.Nat.{◌+◌, ◌-◌, ◌≤◌}
 use Rattle.pixels.specs.Fills.{glyph_pixel}
-use Rattle.pixels.proofs.Filling.{Filling, filled_same, filling_start, filling_one, filling_end}
-use Rattle.pixels.proofs.Pixel.{column_part}
+use Rattle.pixels.proofs.Filling.{Filling}
 use Rattle.pixels.proofs.text.cut.Given as goal
 
 abbrev pub invariant-loop-i : goal.invariant-loop-i

@@ -2,7 +2,6 @@
 use mathlib.Core.Path.{sym, ap, ◌∙◌}
 use Prim.Native.Nat.{ℕ, ◌+◌, ◌*◌}
 use lib.ListN.{length, get_or}
-use borrow.Author.Rules.{rules}
 use Rattle.vram.proofs.Length.{good, wrap, one_some, mask_is, mask_under}
 use Rattle.pixels.proofs.text.font_byte.Goals as goal
 

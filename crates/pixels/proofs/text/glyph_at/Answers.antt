@@ -1,5 +1,4 @@
 -- `pixels::text::glyph_at` meets its contract. Assumes nothing.
-use borrow.Author.Rules.{rules}
 use Rattle.pixels.proofs.Pixel.{glyph_made}
 use Rattle.pixels.proofs.text.glyph_at.Goals as goal
 

@@ -1,7 +1,6 @@
 -- `pixels::text::inks_of` meets its contract. Assumes nothing.
 use mathlib.Core.Path.{ap₂}
 use mathlib.Core.Bool.{Bool, not, ◌&&◌}
-use borrow.Author.Rules.{rules}
 use Rattle.pixels.proofs.text.inks_of.Goals as goal
 
 pub returns : goal.returns

@@ -1,5 +1,4 @@
 -- `pixels::text::Glyph::pixel` meets its contract. Assumes nothing.
-use borrow.Author.Rules.{rules}
 use borrow.Author.Tests.{ne_eqb}
 use Rattle.pixels.proofs.text.Glyph.pixel.Goals as goal
 

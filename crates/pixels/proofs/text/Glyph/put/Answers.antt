@@ -1,12 +1,12 @@
 -- `pixels::text::Glyph::put` meets its contract. The loop's invariant is `Filling`. Assumes nothing.
 use mathlib.Core.Path.{◌≡◌, ap, ◌∙◌, subst}
 use mathlib.Core.Bool.{cond}
-use Prim.Native.Nat.{ℕ, ◌-◌, ◌≤◌}
+use Prim.Native.Nat.{ℕ}
 use native.Mathlib.Omega.{arith}
 use lib.Dec.{eqb}
 use Rattle.pixels.specs.Draw.{filled}
 use Rattle.pixels.specs.Fills.{glyph_pixel}
-use Rattle.pixels.proofs.Filling.{Filling, filling_start, filling_one, filling_end}
+use Rattle.pixels.proofs.Filling.{filling_start, filling_one, filling_end}
 use Rattle.pixels.proofs.Inks.{lit_most, lit_chooses}
 use Rattle.pixels.proofs.text.Glyph.put.Goals as goal
 

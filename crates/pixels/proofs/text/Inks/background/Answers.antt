@@ -1,5 +1,4 @@
 -- `pixels::text::Inks::background` meets its contract. Assumes nothing.
-use borrow.Author.Rules.{rules}
 use borrow.Author.Tests.{lt-ltb, le-ltb}
 use Rattle.pixels.proofs.text.Inks.background.Goals as goal
 

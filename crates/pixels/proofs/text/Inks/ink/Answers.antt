@@ -1,5 +1,4 @@
 -- `pixels::text::Inks::ink` meets its contract. Assumes nothing.
-use borrow.Author.Rules.{rules}
 use Rattle.pixels.proofs.text.Inks.ink.Goals as goal
 
 pub returns-then-self-colour : goal.returns-then-self-colour
