@@ -21,9 +21,8 @@
  * with length 0 is an empty buffer; nothing is read or written through it. A call keeps no pointer and has no state of its
  * own. So calls can run in several threads at once, each on its own buffers; what a call only reads (const) may be shared.
  *
- * Link with the archive that `tools/archive` writes: target/archive/libcapi.a. It is for the machine that it was built on.
- * (`rt staticlib capi` writes one for x86-64 Linux, target/staticlib/libcapi.a, on any machine.) It asks for two symbols, memset
- * and memcpy, which a C library has; a program without one must bring its own. examples/c has a program.
+ * Link with the archive that `tools/archive` writes: target/archive/libcapi.a. It is for x86-64 Linux. It asks for one symbol, memset,
+ * which a C library has; a program without one must bring its own. examples/c has a program.
  */
 #ifndef DESKBOARD_H
 #define DESKBOARD_H

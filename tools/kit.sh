@@ -1,4 +1,4 @@
-# Read by desk-run and tools/archive: the kit, what a crate is made of, and a quiet build that is done once.
+# Read by desk-run, tools/archive and web/: the kit, what a crate is made of, and a quiet build that is done once.
 # The caller sets `me`, its own name for messages, and `top`, the top of the repository.
 #
 # A build leaves a stamp, target/run/WHAT.built, with the kit's identity and the kind of machine. It is done again when the stamp says
@@ -14,7 +14,7 @@ die() { # STATUS WORDS..
     exit "$status"
 }
 
-# Sets rt, the kit's command, and kit, its folder.
+# Sets rt, the kit's command, kit, its folder, and tools, its compiler's.
 find_kit() {
     rt=$(command -v rt) || rt=''
     for each in "${RATTLE_HOME:+$RATTLE_HOME/bin/rt}" /opt/rattle/bin/rt; do
@@ -25,11 +25,11 @@ find_kit() {
         say "it was looked for on PATH, in \$RATTLE_HOME/bin (RATTLE_HOME is ${RATTLE_HOME:-not set}) and in /opt/rattle/bin"
         exit 2
     fi
-    kit=${RATTLE_HOME:-$(dirname "$(dirname "$(readlink -f "$rt")")")}
-    # a script that stands for rt: the kit says where its guide is, in docs/ of its folder
-    [ -d "$kit/on" ] || kit=$(dirname "$(dirname "$("$rt" doc)")")
-    tools=$kit/on/$machine/toolchain
-    [ -d "$tools" ] || die 2 "the kit at $kit has nothing for this machine, $machine"
+    kit=$(dirname "$(dirname "$(readlink -f "$rt")")")
+    # a script that stands for rt: the kit says where its guide is, at the top of its folder
+    [ -f "$kit/KIT-ID" ] || kit=$(dirname "$("$rt" doc)")
+    tools=$kit/toolchain
+    [ "$machine" = x86_64 ] && [ -d "$tools" ] || die 2 "the kit at $kit has nothing for this machine, $machine"
     identity="$(cat "$kit/KIT-ID") on $machine"
 }
 
@@ -37,7 +37,7 @@ find_kit() {
 parts_of() { # NAME
     awk -v want="$1" '
         { sub(/#.*/, ""); i = index($0, ":"); if (!i) next
-          n = substr($0, 1, i - 1); gsub(/[ \t]/, "", n); deps[n] = substr($0, i + 1) }
+          split(substr($0, 1, i - 1), said, " "); deps[said[1]] = substr($0, i + 1) }
         function visit(n,    a, k, m) {
             if (!(n in deps) || seen[n]++) return
             print n
@@ -65,14 +65,15 @@ build_once() { # WHAT NAME FILE WORDS..
     mkdir -p "$room" || exit 2
     log=$room/$what.log
     (
-        # one build at a time, since all write to target/; another may have done the work while this one waited
+        # one build at a time, since all write to the same crates; another may have done the work while this one waited
         if command -v flock >/dev/null; then
             exec 8>"$room/lock"
             flock -n 8 || { say "waits for another build in this folder" && flock 8; }
         fi
         fresh "$what" "$name" "$file" && exit 0
         left=0
-        for part in $(parts_of "$name"); do [ -f "$top/target/stamp/$part" ] || left=$((left + 1)); done
+        # what a check keeps of a crate lies in its out/
+        for part in $(parts_of "$name"); do [ -d "$top/crates/$part/out" ] || left=$((left + 1)); done
         if [ "$left" -gt 1 ]; then takes="about $((left * 10)) s on two cores ($left crates)"; else takes='less than a minute'; fi
         say "proves and builds $what, once: $takes; the prover's text goes to ${log#"$top"/}"
         rm -f "$room/$what.built"

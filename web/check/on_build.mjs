@@ -43,15 +43,19 @@ function wrongAnywhere() {
 // The length of a slice read from where its pointer is: half of those 8 bytes is undefined with 32 bits.
 function placeForBoth() {
   const both = changed("e.ll", /(define internal noundef i32 @"capi::deskboard_new"[\s\S]*?getelementptr i8, ptr %r\d+, i64 )8/, "$10");
-  refuses("a place for both, in another function", "width.mjs", [both], "a byte that is of a pointer and of a number");
+  refuses("a place for both", "width.mjs", [both], "a byte that is of a pointer and of a number");
 }
 
-// One line more at the beginning of deskboard_new.
+// One line more at the beginning of deskboard_new. Its %r1 is the room of the slice that it is handed: a pointer, and a length behind it.
 const WRONG_LINES = [
   ["a line of a form that is not known", '%"bad one" = ptrtoint ptr %a0 to i64', "a pointer as a number"],
   ["a name of a form that is not known", "%bad-one = add i64 1, 2", "an instruction that is not on the list"],
-  ["a fill over a pointer", "call void @llvm.memset.p0.i64(ptr %a0, i8 0, i64 16, i1 false)", "a byte that is of a pointer and of a number"],
-  ["a number that reaches into a pointer", "%bad = load i64, ptr %a0, align 4", "a byte that is of a pointer and of a number"],
+  ["a fill over a pointer", "call void @llvm.memset.p0.i64(ptr %r1, i8 1, i64 16, i1 false)", "a byte that is of a pointer and of a number"],
+  ["a number that reaches into a pointer", "%bad = load i64, ptr %r1, align 4", "a byte that is of a pointer and of a number"],
+  ["numbers that reach into a pointer", "%bad = load { i8, i32 }, ptr %r1, align 4", "a byte that is of a pointer and of a number"],
+  ["a call that gives a pointer and a number", "%bad = call { ptr, i64 } @other(i64 1)", "a call through a pointer, or of a new form"],
+  ["a pointer that is not in 8 aligned bytes", "%at = getelementptr i8, ptr %r1, i64 4\n  store ptr %a0, ptr %at, align 1", "a pointer that is not in 8 aligned bytes"],
+  ["a pointer compared with null where it is not lent", "%bad = icmp eq ptr %r1, null", "pointers compared or chosen"],
   ["a wide number", "%bad = load i128, ptr %a0, align 8", "a load or a store of a new form"],
   ["much room", "%bad = alloca i64, i64 100000, align 8", "room of a new kind"],
   ["a call that gives a pointer", "%bad = call ptr @other(i64 1)", "a function that gives a pointer"],

@@ -2,19 +2,21 @@
 // message where something is found that docs/PROMISES.md ("In a browser") does not allow for. It reads the module's text; it is a look-out, no proof.
 //
 // Allowed: an address is a pointer and a 64-bit number of bytes. A pointer stands in 8 bytes of its own, in the room of a function, and no byte of them
-// is read or written as a number, also not in another function; lent memory holds numbers alone. Moves and fills have constant lengths. No call
-// through a pointer, no function that gives one, no recursion, no globals. Every line of a function must have a form that is known here.
+// is read or written as a number, also not in another function; lent memory holds numbers alone. A fill with zeros is of neither: 0 is the same in both.
+// Moves and fills have constant lengths. An export asks whether a pointer of its caller is null, and nothing else compares one. No call through a
+// pointer, no function that gives one, no recursion, no globals. Every line of a function must have a form that is known here.
 import { readFileSync } from "node:fs";
 
 const KNOWN = new Set([
   "alloca", "load", "store", "getelementptr", "call", "br", "switch", "ret", "unreachable",
-  "zext", "sext", "trunc", "icmp", "select", "phi",
+  "zext", "sext", "trunc", "icmp", "select", "phi", "extractvalue", "insertvalue",
   "add", "sub", "mul", "udiv", "urem", "sdiv", "srem", "and", "or", "xor", "shl", "lshr", "ashr",
 ]);
 const INTRINSICS = /^llvm\.(memmove\.p0\.p0\.i64|memset\.p0\.i64|trap|ctpop\.i64)$/;
 const SIZES = { i1: 1, i8: 1, i16: 2, i32: 4, i64: 8, ptr: 8 };
 const MOST_OFFSET = 4096, MOST_STACK = 16384;
 const NAME = '("[^"]+"|[\\w.$]+)', VALUE = "(%[\\w.]+|-?\\d+|true|false)";
+const NUMBERS = "\\{ i\\d+(?:, i\\d+)* \\}", GIVES = `(void|ptr|i\\d+|${NUMBERS})`; // several numbers are given as one
 
 const faults = new Set(), counts = {}, functions = new Map();
 const fault = (why, line) => faults.add(`${why}: ${line.trim().slice(0, 160)}`);
@@ -51,9 +53,9 @@ function markAll(register, size, kind, line) {
 }
 
 function open(line) {
-  const [, gives, name, parameters] = line.match(new RegExp(`^define (?:internal )?(?:[a-z]+ )*?(void|ptr|i\\d+) @${NAME}\\((.*)\\) #0 \\{$`)) ?? [];
+  const [, gives, name, parameters] = line.match(new RegExp(`^define (?:internal )?(?:[a-z]+ )*?${GIVES} @${NAME}\\((.*)\\) #0 \\{$`)) ?? [];
   if (!name) return fault("a function of a new form", line);
-  now = { name, calls: new Set(), passed: [], stack: 0, bases: new Map(), lent: new Set(), computed: [] };
+  now = { name, calls: new Set(), passed: [], stack: 0, bases: new Map(), rooms: new Set(), lent: new Set(), computed: [] };
   functions.set(name, now);
   if (gives === "ptr") fault("a function that gives a pointer", line);
   const known = (each, i) => new RegExp(`^(ptr|i\\d+)(?: [a-z]+)* %a${i}$`).test(each);
@@ -61,10 +63,11 @@ function open(line) {
 }
 
 const is = {
-  alloca(line) {
-    const [whole, bytes, type] = line.match(/ alloca (?:\[(\d+) x i8\]|(\w+)), align \d+$/) ?? [];
+  alloca(line, result) {
+    const [whole, bytes, type, align] = line.match(/ alloca (?:\[(\d+) x i8\]|(\w+)), align (\d+)$/) ?? [];
     if (!whole || (type && !SIZES[type])) return fault("room of a new kind", line);
     now.stack += type ? SIZES[type] : Number(bytes);
+    if (align === "8") now.rooms.add(result);
   },
   getelementptr(line, result) {
     const [, from, by] = line.match(/getelementptr (?:inbounds )?(?:nuw )?i8, ptr (%[\w.]+), i64 (%[\w.]+|\d+)$/) ?? [];
@@ -77,11 +80,15 @@ const is = {
     now.lent.add(result);
     if (!isLent(base)) now.computed.push({ base, line });
   },
-  load(line, result) { access(line, line.match(/= load (\w+), ptr (%[\w.]+), align (\d+)/), result); },
+  load(line, result) {
+    const [, several, at] = line.match(new RegExp(`= load (${NUMBERS}), ptr (%[\\w.]+), align \\d+`)) ?? [];
+    if (several) return loadNumbers(line, several.match(/i\d+/g), at);
+    access(line, line.match(/= load (\w+), ptr (%[\w.]+), align (\d+)/), result);
+  },
   store(line) { access(line, line.match(new RegExp(`store (\\w+) ${VALUE}, ptr (%[\\w.]+), align (\\d+)`))?.filter((_, i) => i !== 2)); },
   ret(line) { if (/ret ptr/.test(line)) fault("a function that gives a pointer", line); },
   call(line) {
-    const [, gives, to, given] = line.match(new RegExp(`call (?:[a-z]+ )*?(void|ptr|i\\d+) @${NAME}\\((.*)\\)`)) ?? [];
+    const [, gives, to, given] = line.match(new RegExp(`call (?:[a-z]+ )*?${GIVES} @${NAME}\\((.*)\\)`)) ?? [];
     if (!to) return fault("a call through a pointer, or of a new form", line);
     if (gives === "ptr") fault("a function that gives a pointer", line);
     if (to.startsWith("llvm.")) return intrinsic(to, line);
@@ -97,12 +104,24 @@ const is = {
 function access(line, found, result) {
   const [, type, at, align] = found ?? [];
   if (!SIZES[type]) return fault("a load or a store of a new form", line);
-  const [base] = based(at), pointer = type === "ptr";
+  const [base, offset] = based(at), pointer = type === "ptr", aligned = align === "8" || (now.rooms.has(base) && offset % 8 === 0);
   if (pointer) add("pointers loaded or stored");
-  if (pointer && align !== "8") fault("a pointer that is not in 8 aligned bytes", line);
+  if (pointer && !aligned) fault("a pointer that is not in 8 aligned bytes", line);
   if (pointer && isLent(base)) fault("a pointer in lent memory", line);
   if (!isLent(base)) markAll(at, SIZES[type], pointer ? "pointer" : "number", line);
   if (pointer && result) now.lent.add(result);
+}
+
+// Several numbers that lie as in a struct, each at the next place that its size divides.
+function loadNumbers(line, types, at) {
+  const [base, from] = based(at);
+  let to = from;
+  for (const type of types) {
+    if (!SIZES[type]) return fault("a load or a store of a new form", line);
+    to = Math.ceil(to / SIZES[type]) * SIZES[type];
+    if (!isLent(base)) for (let i = 0; i < SIZES[type]; i++) mark(place(base, to + i), "number", line);
+    to += SIZES[type];
+  }
 }
 
 function intrinsic(to, line) {
@@ -112,9 +131,17 @@ function intrinsic(to, line) {
   const length = Number(line.match(/, i64 (\d+), i1 false\)/)?.[1]), registers = [...line.matchAll(/ptr (%[\w.]+)/g)].map(([, register]) => register);
   if (Number.isNaN(length)) return fault("a move or a fill of a computed length", line);
   if (registers.some((register) => isLent(based(register)[0]))) return fault("a move or a fill of lent memory", line);
+  if (to.includes("memset") && /, i8 0, /.test(line)) return;
   if (to.includes("memset")) return markAll(registers[0], length, "number", line);
   const [[a, from], [b, by]] = registers.map(based);
   for (let i = 0; i < length; i++) join(place(a, from + i), place(b, by + i), line);
+}
+
+// Has the caller lent null? Asked of a parameter alone, by an export.
+function isNull(line) {
+  const asks = /= icmp eq ptr %a\d+, null$/.test(line);
+  if (asks) add("null lent");
+  return asks;
 }
 
 const HARMLESS = /^\s*$|^[\w.]+:|^\s+i\d+ -?\d+, label %[\w.]+$|^\s+\]$|^\s*;/; // a label, a case of a switch and its end, a remark
@@ -126,7 +153,7 @@ function read(line) {
   const [, result, what] = line.match(/^\s+(?:(%[\w.]+) = )?(?:tail )?([a-z]+)\b/) ?? [];
   if (/ptrtoint|inttoptr|addrspacecast|bitcast/.test(line)) return fault("a pointer as a number", line);
   if (!KNOWN.has(what)) return fault("an instruction that is not on the list", line);
-  if (/icmp \w+ ptr|select .*\bptr\b|phi ptr/.test(line)) fault("pointers compared or chosen", line);
+  if (/icmp \w+ ptr|select .*\bptr\b|phi ptr/.test(line) && !isNull(line)) fault("pointers compared or chosen", line);
   if (Object.hasOwn(is, what)) is[what](line, result);
 }
 
