@@ -84,15 +84,24 @@ fn order<R: Print>(rt: &R, mem: &mut [u8], list: &[u8]) -> io::Result<()> {
     Ok(())
 }
 
+// What stands in the largest memory.
+fn in_the_largest<R: Print>(rt: &R, mem: &mut [u8], list: &[u8]) -> io::Result<()> {
+    over_the_top(rt, mem)?;
+    edges(rt, mem, list)?;
+    lengths(rt, mem)?;
+    too_long(rt)?;
+    order(rt, mem, list)
+}
+
+fn largest<R: Print>(rt: &R, list: &[u8]) -> io::Result<()> {
+    let mut mem = [0u8; 524288];
+    in_the_largest(rt, &mut mem, list)
+}
+
 fn main(rt: HostRuntime) -> io::Result<()> {
     let list = [7u8; 6000];
     let mut small = [0u8; 16384];
     over_the_top(&rt, &mut small)?;
     edges(&rt, &mut small, &list)?;
-    let mut large = [0u8; 524288];
-    over_the_top(&rt, &mut large)?;
-    edges(&rt, &mut large, &list)?;
-    lengths(&rt, &mut large)?;
-    too_long(&rt)?;
-    order(&rt, &mut large, &list)
+    largest(&rt, &list)
 }
