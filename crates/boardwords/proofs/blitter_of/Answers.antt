@@ -1,7 +1,6 @@
 -- `boardwords::blitter_of` meets its contract: each field from its word. Assumes nothing.
 use Rattle.words.specs.Words.{word_at, switch_in}
 use Rattle.boardwords.specs.Board.{blitter_of}
-use borrow.Author.Rules.{rules}
 use Rattle.boardwords.proofs.blitter_of.Goals as goal
 
 pub returns : goal.returns

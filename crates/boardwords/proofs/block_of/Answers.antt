@@ -1,6 +1,5 @@
 -- `boardwords::block_of` meets its contract: each field from its word. Assumes nothing.
 use Rattle.boardwords.specs.Board.{block_of}
-use borrow.Author.Rules.{rules}
 use Rattle.boardwords.proofs.block_of.Goals as goal
 
 pub returns : goal.returns

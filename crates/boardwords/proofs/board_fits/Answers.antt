@@ -1,6 +1,5 @@
 -- `boardwords::board_fits` meets its contract: one table. Assumes nothing.
 use Rattle.boardwords.specs.Board.{board_most}
-use borrow.Author.Rules.{rules}
 use Rattle.boardwords.proofs.board_fits.Goals as goal
 
 pub returns : goal.returns

@@ -4,7 +4,6 @@ use native.Mathlib.Omega.{arith}
 use Rattle.words.proofs.Filled.{filled_at}
 use Rattle.boardwords.specs.Board.{board_of}
 use Rattle.boardwords.proofs.Same.{board_same}
-use borrow.Author.Rules.{rules}
 use Rattle.boardwords.proofs.board_of.Goals as goal
 
 pub returns-then-words-lt-BOARD_WORDS : goal.returns-then-words-lt-BOARD_WORDS

@@ -1,6 +1,5 @@
 -- `boardwords::ports_of` meets its contract: each field from its word. Assumes nothing.
 use Rattle.boardwords.specs.Board.{ports_of}
-use borrow.Author.Rules.{rules}
 use Rattle.boardwords.proofs.ports_of.Goals as goal
 
 pub returns : goal.returns

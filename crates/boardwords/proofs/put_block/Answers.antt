@@ -4,7 +4,6 @@ use borrow.Author.Tests.{lt-leb}
 use Rattle.words.proofs.Laid.{laid_three}
 use Rattle.boardwords.specs.Board.{side_words, shape_words}
 use mir.Facts.{Fits-widen}
-use borrow.Author.Rules.{rules}
 use Rattle.boardwords.proofs.put_block.Goals as goal
 
 pub overflow_cast-nine : goal.overflow_cast-nine

@@ -5,7 +5,6 @@ use Rattle.laws.proofs.Choice.{bool_byte_lem}
 use Rattle.words.proofs.Laid.{laid_three}
 use Rattle.boardwords.specs.Board.{register_words, block_words, position_words, board_words}
 use mir.Facts.{Fits-widen}
-use borrow.Author.Rules.{rules}
 use Rattle.boardwords.proofs.put_board.Goals as goal
 
 pub overflow_cast-registers : goal.overflow_cast-registers

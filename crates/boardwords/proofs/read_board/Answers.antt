@@ -1,6 +1,5 @@
 -- `boardwords::read_board` meets its contract: each field from its word. Assumes nothing.
 use Rattle.boardwords.specs.Board.{board_of}
-use borrow.Author.Rules.{rules}
 use Rattle.boardwords.proofs.read_board.Goals as goal
 
 pub returns : goal.returns

@@ -1,6 +1,5 @@
 -- `boardwords::side_of` meets its contract: each field from its word. Assumes nothing.
 use Rattle.boardwords.specs.Board.{side_of}
-use borrow.Author.Rules.{rules}
 use Rattle.boardwords.proofs.side_of.Goals as goal
 
 pub returns : goal.returns

@@ -4,7 +4,6 @@ use Rattle.plan.specs.Compile.{compile_told}
 use Rattle.plan.proofs.Refused.{refused_item}
 use Rattle.capi.proofs.Told.{no_number}
 use Rattle.capi.proofs.Passed.{no_room_done}
-use borrow.Author.Rules.{rules}
 use Rattle.capi.proofs.compile_unreported.Goals as goal
 
 pub compile-told-requires : goal.compile-told-requires

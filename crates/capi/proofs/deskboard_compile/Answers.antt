@@ -7,7 +7,6 @@ use Rattle.plan.proofs.Compiling.{compiled_at_most}
 use Rattle.plan.proofs.Refused.{refused_item}
 use Rattle.capi.proofs.Told.{no_number, no_report, done_number, done_report}
 use Rattle.capi.proofs.Passed.{compile_passed, compile_short, compile_out}
-use borrow.Author.Rules.{rules}
 use Rattle.capi.proofs.deskboard_compile.Goals as goal
 
 pub compile_unreported-requires : goal.compile_unreported-requires

@@ -9,7 +9,6 @@ use Rattle.capi.specs.Calls.{draw_call}
 use Rattle.capi.proofs.Told.{alone}
 use Rattle.capi.proofs.Passed.{OnBoard, on_board}
 use Rattle.capi.proofs.Drawn.{OnSettings, on_settings, draw_told_lem, draw_short}
-use borrow.Author.Rules.{rules}
 use Rattle.capi.proofs.deskboard_draw.Goals as goal
 
 pub returns-then-not-good_length : goal.returns-then-not-good_length

@@ -3,7 +3,6 @@ use mathlib.Core.Path.{sym, ap, ◌∙◌}
 use Rattle.refusal.specs.Sheet.{outcome_told}
 use Rattle.capi.specs.Calls.{number_told}
 use Rattle.capi.proofs.Told.{alone}
-use borrow.Author.Rules.{rules}
 use Rattle.capi.proofs.deskboard_install.Goals as goal
 
 pub install-told-requires : goal.install-told-requires

@@ -6,7 +6,6 @@ use Rattle.framewords.specs.Frame.{settings_size, settings_words}
 use Rattle.capi.specs.Calls.{line_call}
 use Rattle.capi.proofs.Told.{alone, no_number, no_change, no_report, short}
 use Rattle.capi.proofs.Passed.{on_frame, line_passed, line_done}
-use borrow.Author.Rules.{rules}
 use Rattle.capi.proofs.deskboard_next_line.Goals as goal
 
 pub good_length-requires : goal.good_length-requires

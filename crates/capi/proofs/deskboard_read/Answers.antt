@@ -6,7 +6,6 @@ use Rattle.board.specs.Board.{read_told}
 use Rattle.capi.specs.Calls.{read_call}
 use Rattle.capi.proofs.Told.{alone, no_number, no_report, done_number, done_report, roomy, short}
 use Rattle.capi.proofs.Passed.{on_board, read_passed}
-use borrow.Author.Rules.{rules}
 use Rattle.capi.proofs.deskboard_read.Goals as goal
 
 pub returns-then-board-lt-BOARD_WORDS : goal.returns-then-board-lt-BOARD_WORDS

@@ -3,7 +3,6 @@ use mathlib.Core.Path.{refl, sym, ◌∙◌}
 use borrow.Author.Tests.{lt-leb, le-leb, not-true, not-false}
 use Rattle.capi.specs.Calls.{run_call}
 use Rattle.capi.proofs.Passed.{on_board, run_done, run_short}
-use borrow.Author.Rules.{rules}
 use Rattle.capi.proofs.deskboard_run.Goals as goal
 
 pub good_length-requires : goal.good_length-requires

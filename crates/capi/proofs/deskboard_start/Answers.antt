@@ -5,7 +5,6 @@ use Rattle.frame.specs.Frame.{start_told}
 use Rattle.capi.specs.Calls.{start_call}
 use Rattle.capi.proofs.Told.{alone, no_number, no_report, done_number, done_report}
 use Rattle.capi.proofs.Passed.{on_board, start_passed}
-use borrow.Author.Rules.{rules}
 use Rattle.capi.proofs.deskboard_start.Goals as goal
 
 pub returns-then-board-lt-BOARD_WORDS : goal.returns-then-board-lt-BOARD_WORDS

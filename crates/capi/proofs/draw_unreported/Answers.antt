@@ -3,7 +3,6 @@ use mathlib.Core.Path.{refl, sym, ap, ◌∙◌}
 use Rattle.pixels.specs.Draw.{draw_told}
 use Rattle.capi.proofs.Told.{alone, no_number}
 use Rattle.capi.proofs.Drawn.{too_short, long_enough, refused_too}
-use borrow.Author.Rules.{rules}
 use Rattle.capi.proofs.draw_unreported.Goals as goal
 
 pub returns-then-room-count : goal.returns-then-room-count

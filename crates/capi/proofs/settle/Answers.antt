@@ -1,7 +1,6 @@
 -- `capi::settle` meets its contract: by what the call reported. Assumes nothing.
 use mathlib.Core.Path.{refl, ◌∙◌}
 use Rattle.capi.proofs.Told.{alone}
-use borrow.Author.Rules.{rules}
 use Rattle.capi.proofs.settle.Goals as goal
 
 pub put_board-requires : goal.put_board-requires

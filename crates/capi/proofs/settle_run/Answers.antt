@@ -1,6 +1,5 @@
 -- `capi::settle_run` meets its contract: by what the run reported. Assumes nothing.
 use mathlib.Core.Path.{refl, ◌∙◌}
-use borrow.Author.Rules.{rules}
 use Rattle.capi.proofs.Told.{alone}
 use Rattle.capi.proofs.settle_run.Goals as goal
 

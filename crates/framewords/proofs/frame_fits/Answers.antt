@@ -3,7 +3,6 @@ use mathlib.Core.Path.{ap, ◌∙◌}
 use mathlib.Core.List.{List}
 use Prim.Native.Nat.{ℕ}
 use Rattle.words.specs.Words.{within}
-use borrow.Author.Rules.{rules}
 use Rattle.framewords.proofs.frame_fits.Goals as goal
 
 pub returns : goal.returns

@@ -4,7 +4,6 @@ use native.Mathlib.Omega.{arith}
 use Rattle.words.proofs.Filled.{filled_at}
 use Rattle.framewords.specs.Frame.{frame_of}
 use Rattle.framewords.proofs.Same.{frame_same}
-use borrow.Author.Rules.{rules}
 use Rattle.framewords.proofs.frame_of.Goals as goal
 
 pub returns-then-words-lt-FRAME_WORDS : goal.returns-then-words-lt-FRAME_WORDS

@@ -1,7 +1,6 @@
 -- `framewords::largest` meets its contract. Assumes nothing.
 use mathlib.Core.Path.{refl}
 use Rattle.framewords.specs.Frame.{settings_most, frame_most}
-use borrow.Author.Rules.{rules}
 use Rattle.framewords.proofs.largest.Goals as goal
 
 pub returns : goal.returns

@@ -1,6 +1,5 @@
 -- `framewords::look_of` meets its contract: each field from its word. Assumes nothing.
 use Rattle.framewords.specs.Frame.{look_of}
-use borrow.Author.Rules.{rules}
 use Rattle.framewords.proofs.look_of.Goals as goal
 
 pub returns : goal.returns

@@ -1,7 +1,6 @@
 -- `framewords::map_of` meets its contract: each field from its word. Assumes nothing.
 use Rattle.words.specs.Words.{word_at, switch_in}
 use Rattle.framewords.specs.Frame.{map_of}
-use borrow.Author.Rules.{rules}
 use Rattle.framewords.proofs.map_of.Goals as goal
 
 pub returns : goal.returns

@@ -1,7 +1,6 @@
 -- `framewords::overlay_of` meets its contract: each field from its word. Assumes nothing.
 use Rattle.words.specs.Words.{word_at}
 use Rattle.framewords.specs.Frame.{overlay_of}
-use borrow.Author.Rules.{rules}
 use Rattle.framewords.proofs.overlay_of.Goals as goal
 
 pub returns : goal.returns

@@ -3,7 +3,6 @@ use borrow.Author.Tests.{lt-leb}
 use Rattle.laws.proofs.Choice.{bool_byte_lem}
 use Rattle.words.proofs.Laid.{laid_on}
 use Rattle.framewords.specs.Frame.{settings_words, place_words, frame_words}
-use borrow.Author.Rules.{rules}
 use Rattle.framewords.proofs.put_frame.Goals as goal
 
 pub returns-then-words-lt-FRAME_WORDS : goal.returns-then-words-lt-FRAME_WORDS

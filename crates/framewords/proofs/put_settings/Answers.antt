@@ -3,7 +3,6 @@ use mathlib.Core.Path.{◌∙◌}
 use Rattle.laws.proofs.Choice.{bool_byte_lem}
 use Rattle.framewords.specs.Frame.{settings_words}
 use mir.Facts.{Fits-widen}
-use borrow.Author.Rules.{rules}
 use Rattle.framewords.proofs.put_settings.Goals as goal
 
 pub overflow_cast-new : goal.overflow_cast-new

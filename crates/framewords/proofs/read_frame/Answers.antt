@@ -1,7 +1,6 @@
 -- `framewords::read_frame` meets its contract: each field from its word. Assumes nothing.
 use Rattle.words.specs.Words.{word_at, switch_in}
 use Rattle.framewords.specs.Frame.{frame_of}
-use borrow.Author.Rules.{rules}
 use Rattle.framewords.proofs.read_frame.Goals as goal
 
 pub returns : goal.returns

@@ -1,7 +1,6 @@
 -- `framewords::read_settings` meets its contract: each field from its word. Assumes nothing.
 use Rattle.words.specs.Words.{word_at}
 use Rattle.framewords.specs.Frame.{settings_of}
-use borrow.Author.Rules.{rules}
 use Rattle.framewords.proofs.read_settings.Goals as goal
 
 pub returns : goal.returns

@@ -5,7 +5,6 @@ use Prim.Native.Nat.{ℕ}
 use lib.ListN.{length, take}
 use Rattle.words.specs.Words.{within}
 use Rattle.framewords.specs.Frame.{settings_most, frame_most}
-use borrow.Author.Rules.{rules}
 use Rattle.framewords.proofs.settings_fits.Goals as goal
 
 pub slice_bounds-all_within-end : goal.slice_bounds-all_within-end

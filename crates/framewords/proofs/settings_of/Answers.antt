@@ -4,7 +4,6 @@ use native.Mathlib.Omega.{arith}
 use Rattle.words.proofs.Filled.{filled_at}
 use Rattle.framewords.specs.Frame.{settings_of}
 use Rattle.framewords.proofs.Same.{settings_same}
-use borrow.Author.Rules.{rules}
 use Rattle.framewords.proofs.settings_of.Goals as goal
 
 pub returns-then-words-lt-SETTINGS_WORDS : goal.returns-then-words-lt-SETTINGS_WORDS
