@@ -13,7 +13,9 @@ pub compile_unreported-requires : goal.compile_unreported-requires
 compile_unreported-requires c = tt
 
 pub returns-then-report-lt1 : goal.returns-then-report-lt1
-returns-then-report-lt1 c = let each = compile_short _ _ _ c.if-report-lt1.true _ c.compile_unreported.ensures in record { number = each.0; output = each.1.0; report = each.1.1 }
+returns-then-report-lt1 c =
+    let each = compile_short _ _ _ c.if-report-lt1.true _ c.compile_unreported.ensures in
+    record { number = each.0; output = each.1.0; report = each.1.1 }
 
 pub compile-told-requires : goal.compile-told-requires
 compile-told-requires c = tt

@@ -43,26 +43,29 @@ returns-then-not-settings_fits c =
     simp (good, le-leb _ _ c.if-board-lt-BOARD_WORDS.false, fits, le-leb _ _ c.if-settings-lt-SETTINGS_WORDS.false, unfit) (record { number = refl; line = refl; report = refl })
 
 pub returns-then-report-lt1 : goal.returns-then-report-lt1
-returns-then-report-lt1 c = let good-there : good_length (length c.args.mem.now) ≡ true = sym c.good_length.ensures ∙ not-false _ c.if-not-good_length.false-raw in
+returns-then-report-lt1 c =
+    let good-there : good_length (length c.args.mem.now) ≡ true = sym c.good_length.ensures ∙ not-false _ c.if-not-good_length.false-raw in
     let board-there : OnBoard c.args.board.now c.board_of-b.result = on_board c.if-board-lt-BOARD_WORDS.false c.board_fits.ensures c.if-not-board_fits.false-raw c.board_of-b.ensures in
     let settings-there : OnSettings c.args.settings.now c.settings_of-s.result = on_settings c.if-settings-lt-SETTINGS_WORDS.false c.settings_fits.ensures c.if-not-settings_fits.false-raw c.settings_of-s.ensures in
-    let each = draw_short (board-there) (settings-there) _ _ _ (good-there) c.if-report-lt1.true _ c.draw_unreported.ensures in
+    let each = draw_short board-there settings-there _ _ _ good-there c.if-report-lt1.true _ c.draw_unreported.ensures in
     record { number = each.0; line = each.1.0; report = each.1.1 }
 
 pub returns-in-Pixels : goal.returns-in-Pixels
-returns-in-Pixels c = let good-there : good_length (length c.args.mem.now) ≡ true = sym c.good_length.ensures ∙ not-false _ c.if-not-good_length.false-raw in
+returns-in-Pixels c =
+    let good-there : good_length (length c.args.mem.now) ≡ true = sym c.good_length.ensures ∙ not-false _ c.if-not-good_length.false-raw in
     let board-there : OnBoard c.args.board.now c.board_of-b.result = on_board c.if-board-lt-BOARD_WORDS.false c.board_fits.ensures c.if-not-board_fits.false-raw c.board_of-b.ensures in
     let settings-there : OnSettings c.args.settings.now c.settings_of-s.result = on_settings c.if-settings-lt-SETTINGS_WORDS.false c.settings_fits.ensures c.if-not-settings_fits.false-raw c.settings_of-s.ensures in
     let a = c.args in
     let answer = sym (ap draw_told c.in-Pixels.is) ∙ c.draw-told.ensures.answer in
-    let each = draw_told_lem (board-there) (settings-there) a.mem.now a.line.now a.report.now (good-there) c.if-report-lt1.false _ _ _ _ answer refl c.draw-told.ensures.line c.lay.ensures in
+    let each = draw_told_lem board-there settings-there a.mem.now a.line.now a.report.now good-there c.if-report-lt1.false _ _ _ _ answer refl c.draw-told.ensures.line c.lay.ensures in
     record { number = each.0; line = each.1.0; report = each.1.1 }
 
 pub returns-in-Refused : goal.returns-in-Refused
-returns-in-Refused c = let good-there : good_length (length c.args.mem.now) ≡ true = sym c.good_length.ensures ∙ not-false _ c.if-not-good_length.false-raw in
+returns-in-Refused c =
+    let good-there : good_length (length c.args.mem.now) ≡ true = sym c.good_length.ensures ∙ not-false _ c.if-not-good_length.false-raw in
     let board-there : OnBoard c.args.board.now c.board_of-b.result = on_board c.if-board-lt-BOARD_WORDS.false c.board_fits.ensures c.if-not-board_fits.false-raw c.board_of-b.ensures in
     let settings-there : OnSettings c.args.settings.now c.settings_of-s.result = on_settings c.if-settings-lt-SETTINGS_WORDS.false c.settings_fits.ensures c.if-not-settings_fits.false-raw c.settings_of-s.ensures in
     let a = c.args in
     let answer = sym (ap draw_told c.in-Refused.is) ∙ c.draw-told.ensures.answer in
-    let each = draw_told_lem (board-there) (settings-there) a.mem.now a.line.now a.report.now (good-there) c.if-report-lt1.false _ _ _ _ answer (c.number.ensures ∙ alone _) c.draw-told.ensures.line refl in
+    let each = draw_told_lem board-there settings-there a.mem.now a.line.now a.report.now good-there c.if-report-lt1.false _ _ _ _ answer (c.number.ensures ∙ alone _) c.draw-told.ensures.line refl in
     record { number = each.0; line = each.1.0; report = each.1.1 }

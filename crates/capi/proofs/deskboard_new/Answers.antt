@@ -19,4 +19,6 @@ pub shape_of-board : goal.shape_of-board
 shape_of-board c = c.board-1.given
 
 pub returns : goal.returns
-returns c = let each = new_done _ _ _ c.if-board-lt-BOARD_WORDS.false c.new-b.ensures c.put_board.ensures in record { number = each.0; board = each.1 }
+returns c =
+    let each = new_done _ _ _ c.if-board-lt-BOARD_WORDS.false c.new-b.ensures c.put_board.ensures in
+    record { number = each.0; board = each.1 }

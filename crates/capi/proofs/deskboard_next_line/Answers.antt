@@ -55,7 +55,9 @@ pub returns-else-settings-lt-SETTINGS_WORDS : goal.returns-else-settings-lt-SETT
 returns-else-settings-lt-SETTINGS_WORDS c =
     let good = sym c.good_length.ensures ∙ not-false _ c.if-not-good_length.false-raw in
     let o = on_frame c.if-frame-lt-FRAME_WORDS.false c.frame_fits.ensures c.if-not-frame_fits.false-raw c.frame_of-f.ensures in
-    let u = sym (ap line_told c.in-Line.is) ∙ c.next_line-next.ensures.report in let each = line_done o _ _ good c.if-settings-lt-SETTINGS_WORDS.false _ _ _ _ u c.next_line-next.ensures.frame c.put_frame.ensures c.put_settings.ensures in record { number = each.0; frame = each.1.0; settings = each.1.1 }
+    let u = sym (ap line_told c.in-Line.is) ∙ c.next_line-next.ensures.report in
+    let each = line_done o _ _ good c.if-settings-lt-SETTINGS_WORDS.false _ _ _ _ u c.next_line-next.ensures.frame c.put_frame.ensures c.put_settings.ensures in
+    record { number = each.0; frame = each.1.0; settings = each.1.1 }
 
 pub returns-in-Refused : goal.returns-in-Refused
 returns-in-Refused c =

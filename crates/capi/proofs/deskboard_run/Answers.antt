@@ -30,7 +30,9 @@ run_unreported-requires c = tt
 
 pub returns-then-report-lt2 : goal.returns-then-report-lt2
 returns-then-report-lt2 c =
-    let good = sym c.good_length.ensures ∙ not-false _ c.if-not-good_length.false-raw in let each = run_short (on_board c.if-board-lt-BOARD_WORDS.false c.board_fits.ensures c.if-not-board_fits.false-raw refl) _ _ _ good c.if-report-lt2.true _ c.run_unreported.ensures in record { number = each.0; board = each.1.0; memory = each.1.1.0; report = each.1.1.1 }
+    let good = sym c.good_length.ensures ∙ not-false _ c.if-not-good_length.false-raw in
+    let each = run_short (on_board c.if-board-lt-BOARD_WORDS.false c.board_fits.ensures c.if-not-board_fits.false-raw refl) _ _ _ good c.if-report-lt2.true _ c.run_unreported.ensures in
+    record { number = each.0; board = each.1.0; memory = each.1.1.0; report = each.1.1.1 }
 
 pub board_of-b-requires : goal.board_of-b-requires
 board_of-b-requires c = tt
@@ -46,4 +48,6 @@ returns c =
     let good = sym c.good_length.ensures ∙ not-false _ c.if-not-good_length.false-raw in
     let o = on_board c.if-board-lt-BOARD_WORDS.false c.board_fits.ensures c.if-not-board_fits.false-raw c.board_of-b.ensures in
     let s = c.settle_run.ensures in
-    let ran = c.run-ran.ensures in let each = run_done o _ _ _ good c.if-report-lt2.false _ _ _ _ _ _ s.number s.board s.report ran.report ran.board ran.memory in record { number = each.0; board = each.1.0; memory = each.1.1.0; report = each.1.1.1 }
+    let ran = c.run-ran.ensures in
+    let each = run_done o _ _ _ good c.if-report-lt2.false _ _ _ _ _ _ s.number s.board s.report ran.report ran.board ran.memory in
+    record { number = each.0; board = each.1.0; memory = each.1.1.0; report = each.1.1.1 }

@@ -35,4 +35,6 @@ pub returns : goal.returns
 returns c =
     let o = on_board c.if-board-lt-BOARD_WORDS.false c.board_fits.ensures c.if-not-board_fits.false-raw c.board_of-b.ensures in
     let s = c.settle.ensures in
-    let r = c.write-changed.ensures in let each = write_done o _ _ _ _ s.number s.board _ _ r.report r.board in record { number = each.0; board = each.1 }
+    let r = c.write-changed.ensures in
+    let each = write_done o _ _ _ _ s.number s.board _ _ r.report r.board in
+    record { number = each.0; board = each.1 }

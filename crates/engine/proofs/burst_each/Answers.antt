@@ -145,11 +145,13 @@ returns-else-place-rows c =
     (ended a.blitter drawn.result.note) drawn.new.mem (l.done + c.least-count.result) (l.made + drawn.result.accesses) = burst_end turn c.ahead-place.ensures c.columns-columns.ensures c.rows-rows.ensures c.if-place-columns.false c.if-place-rows.false in rw c.end-blitter.ensures (ending)
 
 pub overflow_cast-blitter : goal.overflow_cast-blitter
-overflow_cast-blitter c = let height-in : c.args.blitter.block.height < 256 = omega arith in
+overflow_cast-blitter c =
+    let height-in : c.args.blitter.block.height < 256 = omega arith in
     record { fits = omega (arith, c.loop-done.invariant.0.place.row_in, rows_small c.args.blitter.block height-in) }
 
 pub overflow_cast-blitter-2 : goal.overflow_cast-blitter-2
-overflow_cast-blitter-2 c = let width-in : c.args.blitter.block.width0 < 256 = omega arith in
+overflow_cast-blitter-2 c =
+    let width-in : c.args.blitter.block.width0 < 256 = omega arith in
     record { fits = omega (arith, c.loop-done.invariant.0.place.col_in, columns_small c.args.blitter.block width-in) }
 
 pub shape_of-mem : goal.shape_of-mem

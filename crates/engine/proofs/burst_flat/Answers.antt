@@ -44,26 +44,31 @@ pub draw-part-requires : goal.draw-part-requires
 draw-part-requires c = tt
 
 pub overflow_add-made : goal.overflow_add-made
-overflow_add-made c = let drawn = c.draw-part.ensures in
+overflow_add-made c =
+    let drawn = c.draw-part.ensures in
     let turn = at_once c.loop-place.invariant.0 c.rows-rows.ensures c.loop-place-test.true c.requires.1 c.reach.ensures.1 c.least-most.ensures c.stretch-bytes.ensures drawn.count drawn.drawn in stretch_made turn
 
 pub overflow_add-done : goal.overflow_add-done
-overflow_add-done c = let drawn = c.draw-part.ensures in
+overflow_add-done c =
+    let drawn = c.draw-part.ensures in
     let turn = at_once c.loop-place.invariant.0 c.rows-rows.ensures c.loop-place-test.true c.requires.1 c.reach.ensures.1 c.least-most.ensures c.stretch-bytes.ensures drawn.count drawn.drawn in stretch_done turn
 
 pub after-place-requires : goal.after-place-requires
-after-place-requires c = let drawn = c.draw-part.ensures in
+after-place-requires c =
+    let drawn = c.draw-part.ensures in
     let turn = at_once c.loop-place.invariant.0 c.rows-rows.ensures c.loop-place-test.true c.requires.1 c.reach.ensures.1 c.least-most.ensures c.stretch-bytes.ensures drawn.count drawn.drawn in
     (placed_in turn.going c.loop-place.invariant.1, turn.some, turn.reach)
 
 pub loop-place-smaller : goal.loop-place-smaller
-loop-place-smaller c = let drawn = c.draw-part.ensures in
+loop-place-smaller c =
+    let drawn = c.draw-part.ensures in
     let turn = at_once c.loop-place.invariant.0 c.rows-rows.ensures c.loop-place-test.true c.requires.1 c.reach.ensures.1 c.least-most.ensures c.stretch-bytes.ensures drawn.count drawn.drawn in
     let s = turn in
     omega (arith, s.some, s.room)
 
 pub loop-place-preserved : goal.loop-place-preserved
-loop-place-preserved c = let drawn = c.draw-part.ensures in
+loop-place-preserved c =
+    let drawn = c.draw-part.ensures in
     let turn = at_once c.loop-place.invariant.0 c.rows-rows.ensures c.loop-place-test.true c.requires.1 c.reach.ensures.1 c.least-most.ensures c.stretch-bytes.ensures drawn.count drawn.drawn in rw c.after-place.ensures (turned_on turn, refl)
 
 pub leave-requires : goal.leave-requires

@@ -36,5 +36,6 @@ pub returns : goal.returns
 returns c =
     let good : good_length (length c.args.mem.now) ≡ true = sym c.good_length.ensures ∙ not-false _ c.if-not-good_length.false-raw in
     let sound : sound_blitter c.args.blitter ≡ true = sym c.sound.ensures ∙ not-false _ c.if-not-sound.false-raw in
-    let a = c.args in let each = ran_to a.blitter a.mem.now a.budget good sound c.if-budget-gt-BUDGET.false _ _ _ _
+    let a = c.args in
+    let each = ran_to a.blitter a.mem.now a.budget good sound c.if-budget-gt-BUDGET.false _ _ _ _
     c.run_for-run.ensures.run in record { report = each.0; blitter = each.1.0; memory = each.1.1 }

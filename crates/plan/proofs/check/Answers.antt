@@ -26,18 +26,21 @@ pub overflow_add-bytes : goal.overflow_add-bytes
 overflow_add-bytes c = let z = size_le c.in-Is.it in omega (arith, c.size_of-bytes.ensures, c.loop-at.invariant)
 
 pub overflow_add-total : goal.overflow_add-total
-overflow_add-total c = let read : item_at c.args.plan.now c.loop-at.at c.loop-at.n c.loop-at.total
+overflow_add-total c =
+    let read : item_at c.args.plan.now c.loop-at.at c.loop-at.n c.loop-at.total
     ≡ Is c.in-Is.it c.in-Is.next = sym (item_one _ _ _ c.item_at-r.ensures) ∙ c.in-Is.is in omega (arith, c.lines_of-total.ensures, (taken _ _ _ _ _ _ (read)).fits.lines)
 
 pub overflow_add-n : goal.overflow_add-n
 overflow_add-n c = omega (arith, c.loop-at.invariant)
 
 pub loop-at-smaller : goal.loop-at-smaller
-loop-at-smaller c = let read : item_at c.args.plan.now c.loop-at.at c.loop-at.n c.loop-at.total
+loop-at-smaller c =
+    let read : item_at c.args.plan.now c.loop-at.at c.loop-at.n c.loop-at.total
     ≡ Is c.in-Is.it c.in-Is.next = sym (item_one _ _ _ c.item_at-r.ensures) ∙ c.in-Is.is in let i = taken _ _ _ _ _ _ (read) in omega (arith, c.loop-at-test.true)
 
 pub loop-at-preserved : goal.loop-at-preserved
-loop-at-preserved c = let read : item_at c.args.plan.now c.loop-at.at c.loop-at.n c.loop-at.total
+loop-at-preserved c =
+    let read : item_at c.args.plan.now c.loop-at.at c.loop-at.n c.loop-at.total
     ≡ Is c.in-Is.it c.in-Is.next = sym (item_one _ _ _ c.item_at-r.ensures) ∙ c.in-Is.is in
     check_turn _ _ _ _ _ c.loop-at.invariant _ _ _ _ c.loop-at-test.true (read) c.size_of-bytes.ensures c.lines_of-total.ensures
 

@@ -22,23 +22,27 @@ pub slice_bounds-write_record-start : goal.slice_bounds-write_record-start
 slice_bounds-write_record-start c = omega (arith, c.loop-at.invariant)
 
 pub write_record-to-requires : goal.write_record-to-requires
-write_record-to-requires c = let read : known_at c.args.plan.now c.loop-at.at
+write_record-to-requires c =
+    let read : known_at c.args.plan.now c.loop-at.at
     ≡ Is c.in-Is.it c.in-Is.next = sym c.known_at-r.ensures ∙ c.in-Is.is in write_may _ _ _ _ _ c.loop-at.invariant c.loop-at-test.true _ _ (read)
 
 pub overflow_add-to : goal.overflow_add-to
-overflow_add-to c = let read : known_at c.args.plan.now c.loop-at.at
+overflow_add-to c =
+    let read : known_at c.args.plan.now c.loop-at.at
     ≡ Is c.in-Is.it c.in-Is.next = sym c.known_at-r.ensures ∙ c.in-Is.is in
     let l = c.loop-at.invariant in
     omega (arith, c.write_record-to.ensures.0, write_fits _ _ _ _ _ l c.loop-at-test.true _ _ (read))
 
 pub loop-at-smaller : goal.loop-at-smaller
-loop-at-smaller c = let read : known_at c.args.plan.now c.loop-at.at
+loop-at-smaller c =
+    let read : known_at c.args.plan.now c.loop-at.at
     ≡ Is c.in-Is.it c.in-Is.next = sym c.known_at-r.ensures ∙ c.in-Is.is in
     let t = c.loop-at-test.true in
     omega (arith, t, (write_taken _ _ _ _ _ c.loop-at.invariant t _ _ (read)).on)
 
 pub loop-at-preserved : goal.loop-at-preserved
-loop-at-preserved c = let read : known_at c.args.plan.now c.loop-at.at
+loop-at-preserved c =
+    let read : known_at c.args.plan.now c.loop-at.at
     ≡ Is c.in-Is.it c.in-Is.next = sym c.known_at-r.ensures ∙ c.in-Is.is in
     let w = c.write_record-to in
     write_turn _ _ _ _ _ c.loop-at.invariant c.loop-at-test.true _ _ (read) _ _ w.ensures.0 w.ensures.1

@@ -24,7 +24,8 @@ least-requires c =
     (omega (arith, c.columns.ensures, q.col_in), omega (arith, c.pattern_width.ensures, sourcecol_in q))
 
 pub returns-then-zoom_x-eq1 : goal.returns-then-zoom_x-eq1
-returns-then-zoom_x-eq1 c = let wide : tall_of c.args.block ≡ false = sym c.tall.ensures ∙ c.if-tall.false in
+returns-then-zoom_x-eq1 c =
+    let wide : tall_of c.args.block ≡ false = sym c.tall.ensures ∙ c.if-tall.false in
     let least = c.least.ensures in
     reach_plain c.requires (wide) least.0 (rw (sym c.columns.ensures) least.1)
     (sym c.zoom_x.ensures ∙ c.if-zoom_x-eq1.true) (rw (sym c.pattern_width.ensures) least.2)
@@ -38,7 +39,8 @@ least-requires-2 c =
     (omega (arith, c.columns.ensures, q.col_in), omega (arith, c.zoom_x-2.ensures, across_in q))
 
 pub returns : goal.returns
-returns c = let wide : tall_of c.args.block ≡ false = sym c.tall.ensures ∙ c.if-tall.false in
+returns c =
+    let wide : tall_of c.args.block ≡ false = sym c.tall.ensures ∙ c.if-tall.false in
     let least = c.least-2.ensures in
     reach_zoomed c.requires (wide) least.0 (rw (sym c.columns.ensures) least.1)
     (λ e. c.if-zoom_x-eq1.false (c.zoom_x.ensures ∙ e)) (rw (sym c.zoom_x-2.ensures) least.2)

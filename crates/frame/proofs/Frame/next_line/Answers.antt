@@ -29,10 +29,14 @@ pub returns-then-self : goal.returns-then-self
 returns-then-self c =
     let a = c.args in
     let good = sym c.good_length.ensures ∙ not-false _ c.if-not-good_length.false-raw in
-    let sound = sym c.sound.ensures ∙ not-false _ c.if-not-sound.false-raw in let each = line_on a.mem.now a.self good sound c.if-self-ge-LINES.false c.if-self.true _ _ c.fetch-reader.ensures c.advance-self.ensures in record { report = each.0; frame = each.1 }
+    let sound = sym c.sound.ensures ∙ not-false _ c.if-not-sound.false-raw in
+    let each = line_on a.mem.now a.self good sound c.if-self-ge-LINES.false c.if-self.true _ _ c.fetch-reader.ensures c.advance-self.ensures in
+    record { report = each.0; frame = each.1 }
 
 pub returns : goal.returns
 returns c =
     let a = c.args in
     let good = sym c.good_length.ensures ∙ not-false _ c.if-not-good_length.false-raw in
-    let sound = sym c.sound.ensures ∙ not-false _ c.if-not-sound.false-raw in let each = line_off a.mem.now a.self good sound c.if-self-ge-LINES.false c.if-self.false _ c.new.ensures in record { report = each.0; frame = each.1 }
+    let sound = sym c.sound.ensures ∙ not-false _ c.if-not-sound.false-raw in
+    let each = line_off a.mem.now a.self good sound c.if-self-ge-LINES.false c.if-self.false _ c.new.ensures in
+    record { report = each.0; frame = each.1 }
