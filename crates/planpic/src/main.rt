@@ -107,6 +107,25 @@ fn in_memory<R: Print, E: Print>(
     Ok(())
 }
 
+// The image that a file has, read into what is lent.
+fn with_image<R: Env + Files + Print, E: Print>(
+    rt: &R,
+    errors: &E,
+    image: &mut [u8],
+    list: &[u8],
+    memory: usize,
+    video: u8,
+) -> io::Result<()> {
+    let got = files::read_file(rt, errors, memory, image);
+    if got.failed {
+        return Ok(());
+    }
+    if Vram::LONGEST < got.bytes {
+        return print::text(errors, b"MEMORY has more than 524288 bytes\n");
+    }
+    in_memory(rt, errors, image, list, video)
+}
+
 // The image, with room for one byte more than memory has, so that a longer one is seen.
 fn with_list<R: Env + Files + Print, E: Print>(
     rt: &R,
@@ -116,14 +135,7 @@ fn with_list<R: Env + Files + Print, E: Print>(
     video: u8,
 ) -> io::Result<()> {
     let mut image = [0u8; 524289];
-    let got = files::read_file(rt, errors, memory, &mut image);
-    if got.failed {
-        return Ok(());
-    }
-    if Vram::LONGEST < got.bytes {
-        return print::text(errors, b"MEMORY has more than 524288 bytes\n");
-    }
-    in_memory(rt, errors, &mut image, list, video)
+    with_image(rt, errors, &mut image, list, memory, video)
 }
 
 fn with_plan<R: Env + Files + Print, E: Print>(

@@ -77,13 +77,11 @@ fn at(line: &[u16], mode: u8, left: usize, x: usize) -> Point {
 
 // Three bytes a point.
 fn fill_row(row: &mut [u8], line: &[u16], mode: u8, left: usize) {
-    let mut x = 0;
-    while x < row.len() / 3 {
+    for x in 0..row.len() / 3 {
         let p = at(line, mode, left, x);
         row[x * 3] = p.red;
         row[x * 3 + 1] = p.green;
         row[x * 3 + 2] = p.blue;
-        x += 1;
     }
 }
 

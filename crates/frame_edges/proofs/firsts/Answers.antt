@@ -1,0 +1,7 @@
+-- `frame_edges::firsts` is safe: that a memory of 524,288 zeros has its length is a law, so that no byte is counted. Assumes nothing.
+use Rattle.std.proofs.Common.{ℕ, sym}
+use Rattle.std.proofs.lemmas.List.{length-replicate}
+use Rattle.frame_edges.proofs.firsts.Goals as goal
+
+pub slice_bounds-lengths-end : goal.slice_bounds-lengths-end
+slice_bounds-lengths-end g c = sym (length-replicate {A = ℕ} 524288 0)
