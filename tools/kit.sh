@@ -74,7 +74,7 @@ build_once() { # WHAT NAME FILE WORDS..
         left=0
         # what a check keeps of a crate lies in its out/
         for part in $(parts_of "$name"); do [ -d "$top/crates/$part/out" ] || left=$((left + 1)); done
-        if [ "$left" -gt 1 ]; then takes="about $((left * 10)) s on two cores ($left crates)"; else takes='less than a minute'; fi
+        if [ "$left" -gt 1 ]; then takes="some minutes, less where this machine has proved them before ($left crates)"; else takes='about a minute'; fi
         say "proves and builds $what, once: $takes; the prover's text goes to ${log#"$top"/}"
         rm -f "$room/$what.built"
         echo "$identity" >"$room/$what.new"
