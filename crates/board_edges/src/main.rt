@@ -126,17 +126,7 @@ fn wraps<R: Print>(
 
 // Whether two memories hold the same bytes.
 fn same(a: &[u8], b: &[u8]) -> bool {
-    if a.len() != b.len() {
-        return false;
-    }
-    let mut i = 0;
-    while i < a.len() {
-        if a[i] != b[i] {
-            return false;
-        }
-        i += 1;
-    }
-    true
+    a == b
 }
 
 // A zoomed picture added to itself, 3 bytes further on.
