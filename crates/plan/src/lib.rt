@@ -56,9 +56,12 @@ fn copy(bytes: &[u8], out: &mut [u8]) -> usize
     ensures count { result ≡ length bytes.now }
     ensures laid { out.new ≡ bytes.now ++ drop (length bytes.now) out.old }
 {
-    let n = bytes.len();
-    out[..n].copy_from_slice(bytes);
-    n
+    let mut i = 0;
+    while i < bytes.len() {
+        out[i] = bytes[i];
+        i += 1;
+    }
+    i
 }
 
 // A kind 1 record: all seven data groups, in the manual's fetch order.
