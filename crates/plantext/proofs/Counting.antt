@@ -1,5 +1,5 @@
 -- A count that a buffer has room for. Assumes nothing.
-use Rattle.std.proofs.Common.{ℕ, ◌≤◌, ◌≡◌, List, length, sym}
+use Rattle.std.proofs.Common.{ℕ, ◌≤◌, List, length, sym}
 use Rattle.std.proofs.Math.Seq.{length-take-le}
 use Rattle.plantext.specs.Counts.{IsPrefixLen}
 

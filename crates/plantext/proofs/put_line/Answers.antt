@@ -1,6 +1,5 @@
 -- `plantext::put_line` meets its contract. The loop's invariant is `Lining`. Assumes nothing.
-use Rattle.std.proofs.Common.{arith}
-use Rattle.plantext.proofs.Line.{line_start, line_room, line_turn, line_end}
+use Rattle.plantext.proofs.Line.{line_turn, line_end}
 use Rattle.plantext.proofs.put_line.Goals as goal
 
 pub loop-i-preserved : goal.loop-i-preserved
