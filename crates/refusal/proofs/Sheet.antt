@@ -6,11 +6,10 @@ use Prim.Native.Nat.{ℕ}
 use native.Mathlib.Omega.{arith}
 use lib.ListN.{get_or}
 use Rattle.laws.proofs.Once.{OneAnswer}
-use Rattle.refusal.specs.Sheet.{number_of, Told, done, refused, outcome_told, unless}
+use Rattle.refusal.specs.Sheet.{number_of, Told, done, refused, told, unless}
 use Rattle.refusal.specs.declared.Refusal.{Refusal}
 use Rattle.refusal.specs.declared.Refusal.TheVariants.{Board, Budget, Register, FrameOver, PlanCut, NoBand, Kind, Length, Field, First, Lines, Room, Address, State, Short}
-use Rattle.refusal.specs.declared.Outcome.{Outcome}
-use Rattle.refusal.specs.declared.Outcome.TheVariants.{Done, Refused}
+use Rattle.std.specs.Prelude.{Result, Ok, Err}
 use Rattle.refusal.proofs.Refusal.number.Kinds as number_kinds
 use Rattle.refusal.proofs.Refusal.number.Reads as number
 
@@ -47,12 +46,12 @@ done_refused e = absurd (let z : ◌≡◌ {A = ℕ} 0 1 = cc in omega arith)
 pub refused_done : {X A : Type 0} {v : X} {number item : ℕ} → refused number item ≡ done v → A
 refused_done e = done_refused (sym e)
 
--- what is told means one outcome
-pub outcome_one : (x y : Outcome) → outcome_told x ≡ outcome_told y → x ≡ y
-outcome_one Done Done e = refl
-outcome_one Done (Refused w) e = done_refused e
-outcome_one (Refused v) Done e = refused_done e
-outcome_one (Refused v) (Refused w) e = ap Refused (number_one v w (cc))
+-- what is told means one answer
+pub told_one : {V : Type 0} (x y : Result V Refusal) → told x ≡ told y → x ≡ y
+told_one (Ok v) (Ok w) e = cc
+told_one (Ok v) (Err w) e = done_refused e
+told_one (Err v) (Ok w) e = refused_done e
+told_one (Err v) (Err w) e = ap Err (number_one v w (cc))
 
 number_once : OneAnswer 0 number_kinds.ps number_kinds.r number.Post
 number_once κs a x y s t p q = p ∙ sym q

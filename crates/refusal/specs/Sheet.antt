@@ -1,9 +1,7 @@
 -- Document 01, "Refusal numbers": the table, and what a call tells.
-use Rattle.std.specs.Prelude.{ℕ, Bool, true, false}
+use Rattle.std.specs.Prelude.{ℕ, Bool, true, false, Result, Ok, Err}
 use Rattle.refusal.specs.declared.Refusal.{Refusal}
 use Rattle.refusal.specs.declared.Refusal.TheVariants.{Board, Budget, Register, FrameOver, PlanCut, NoBand, Kind, Length, Field, First, Lines, Room, Address, State, Short}
-use Rattle.refusal.specs.declared.Outcome.{Outcome}
-use Rattle.refusal.specs.declared.Outcome.TheVariants.{Done, Refused}
 
 -- the table: each name's number; 12 is unused (document 02, A7), 17 is of document 02, A5, and 16 is not there
 abbrev pub number_of : Refusal → ℕ
@@ -28,10 +26,15 @@ pub data Told (X : Type 0) : Type 0 where
   done : X → Told X
   refused : ℕ → ℕ → Told X
 
--- the paper's number for each case of an outcome
-abbrev pub outcome_told : Outcome → Told (Unit {0})
-outcome_told Done = done tt
-outcome_told (Refused why) = refused (number_of why) 0
+-- the paper's number and values for each case of an answer
+abbrev pub told : {V : Type 0} → Result V Refusal → Told V
+told (Ok v) = done v
+told (Err why) = refused (number_of why) 0
+
+-- what the test of a refusal answers
+abbrev pub asked : Bool → Refusal → Result (Unit {0}) Refusal
+asked true why = Ok tt
+asked false why = Err why
 
 -- a refusal that has no item of its own has item 0; the chain of these is the order of the refusals
 abbrev pub unless : {X : Type 0} → Bool → ℕ → Told X → Told X

@@ -1,10 +1,10 @@
 #![tactic(auto)]
 
 ghost use Rattle.std.specs.Prelude.{◌≡◌};
-ghost use Rattle.refusal.specs.Sheet.{number_of};
+ghost use Rattle.refusal.specs.Sheet.{number_of, asked};
 
 // The refusal sheet: why a call was refused. The names are document 01's; Short, of document 02, is ours.
-#[derive(Clone, Copy)]
+#[derive(Clone, Copy, Debug, PartialEq, Eq)]
 pub enum Refusal {
     Board,
     Budget,
@@ -23,11 +23,18 @@ pub enum Refusal {
     Short,
 }
 
-// What a call tells that has nothing else to report: it is done, or why it is refused.
+// The state after a call, and what the call reports: where it is refused the state is as it was handed in.
 #[derive(Clone, Copy)]
-pub enum Outcome {
-    Done,
-    Refused(Refusal),
+pub struct After<S, T> {
+    pub state: S,
+    pub report: Result<T, Refusal>,
+}
+
+// The test of a refusal. A chain of these, each with a `?`, is the order of the refusals.
+pub fn ask(holds: bool, why: Refusal) -> Result<(), Refusal>
+    ensures { result ≡ asked holds why }
+{
+    if holds { Ok(()) } else { Err(why) }
 }
 
 impl Refusal {

@@ -1,7 +1,7 @@
 -- Each contract of this crate admits one outcome only. Assumes nothing.
 use mathlib.Core.Path.{sym, ◌∙◌}
 use Rattle.laws.proofs.Once.{OneAnswer, OneExit}
-use Rattle.refusal.proofs.Sheet.{outcome_one}
+use Rattle.refusal.proofs.Sheet.{told_one}
 use Rattle.vram.proofs.good_length.Kinds as good_length_kinds
 use Rattle.vram.proofs.good_length.Reads as good_length
 use Rattle.vram.proofs.byte_at.Kinds as byte_at_kinds
@@ -26,7 +26,7 @@ number_19_once : OneAnswer 0 number_19_kinds.ps number_19_kinds.r number_19_read
 number_19_once κs a x y s t p q = p ∙ sym q
 
 install_once : OneAnswer 2 install_kinds.ps install_kinds.r install.Post
-install_once κs a x y s t p q = outcome_one x y (p.0 ∙ sym q.0)
+install_once κs a x y s t p q = told_one x y (p.0 ∙ sym q.0)
 
 install_memory_once : OneExit 2 install_kinds.ps install_kinds.r install.Post (λ κs s. s.0.now)
 install_memory_once κs a x y s t p q = p.1 ∙ sym q.1

@@ -1,11 +1,11 @@
 #![tactic(auto)]
 
 ghost use Rattle.std.specs.Prelude.{◌≡◌, ◌+◌, ◌≤◌, ◌<◌, length};
-ghost use Rattle.refusal.specs.Sheet.{outcome_told};
+ghost use Rattle.refusal.specs.Sheet.{told};
 ghost use Rattle.vram.specs.Memory.{good_length, byte_at, number12, number19};
 ghost use Rattle.vram.specs.Install.{poured, install_answer, install_memory};
 
-use refusal::{Outcome, Refusal};
+use refusal::{Refusal, ask};
 
 // Video memory is a lent slice and has no type of its own: its limits stand here.
 #[derive(Clone, Copy)]
@@ -69,28 +69,20 @@ fn pour(mem: &mut [u8], list: &[u8], address: u32)
 {
     let n = mem.len();
     let mut at = address as usize;
-    let mut i = 0;
-    while i < list.len() {
-        mem[at % 524288 % n] = list[i];
+    for v in list {
+        mem[at % 524288 % n] = *v;
         at += 1;
-        i += 1;
     }
 }
 
 // Writes a list of bytes at an address of video memory, or refuses and writes nothing.
-pub fn install(mem: &mut [u8], list: &[u8], address: u32) -> Outcome
-    ensures answer { outcome_told result ≡ install_answer mem.old list.now address }
+pub fn install(mem: &mut [u8], list: &[u8], address: u32) -> Result<(), Refusal>
+    ensures answer { told result ≡ install_answer mem.old list.now address }
     ensures memory { mem.new ≡ install_memory mem.old list.now address }
 {
-    if !good_length(mem.len()) {
-        return Outcome::Refused(Refusal::Board);
-    }
-    if Vram::HIGHEST < address {
-        return Outcome::Refused(Refusal::Address);
-    }
-    if Vram::INSTALLED < list.len() {
-        return Outcome::Refused(Refusal::Room);
-    }
+    ask(good_length(mem.len()), Refusal::Board)?;
+    ask(address <= Vram::HIGHEST, Refusal::Address)?;
+    ask(list.len() <= Vram::INSTALLED, Refusal::Room)?;
     pour(mem, list, address);
-    Outcome::Done
+    Ok(())
 }
