@@ -7,16 +7,16 @@ use native.Mathlib.Omega.{arith}
 use lib.Dec.{eqb, ltb, leb}
 use lib.ListN.{length}
 use borrow.Author.Tests.{le-leb, leb-true, eqb-true}
+use Rattle.std.specs.Prelude.{Result}
 use Rattle.refusal.specs.declared.Refusal.{Refusal}
 use Rattle.refusal.specs.declared.Refusal.TheVariants.{PlanCut, Kind, Length, Field, First, Lines}
 use Rattle.refusal.proofs.Sheet.{refused_done}
-use Rattle.item.specs.Item.{number2, sound_item, lines_of, is_full, body_size, body_at, must, fitted, item_at, known_at, item_told}
+use Rattle.item.specs.Item.{number2, sound_item, lines_of, is_full, body_size, body_at, is, must, fitted, item_at, known_at, item_told}
 use Rattle.item.specs.declared.Item.{Item}
-use Rattle.item.specs.declared.Read.{Read}
-use Rattle.item.specs.declared.Read.TheVariants.{Is}
+use Rattle.item.specs.declared.ItemRead.{ItemRead}
 
 -- a chain that ends in an item passed its first test
-passed : (t : Bool) (why : Refusal) (rest : Read) (it : Item) (next : ℕ) → must t why rest ≡ Is it next → (t ≡ true) × (rest ≡ Is it next)
+passed : (t : Bool) (why : Refusal) (rest : Result ItemRead Refusal) (it : Item) (next : ℕ) → must t why rest ≡ is it next → (t ≡ true) × (rest ≡ is it next)
 passed true why rest it next e = (refl, e)
 passed false why rest it next e = refused_done (ap (item_told 0) e)
 
@@ -35,7 +35,7 @@ pub record Taken (s : List ℕ) (at n total : ℕ) (it : Item) (next : ℕ) : Ty
   pub within : next ≤ length s
   pub fits : Fits n total it
 
-fitted_is : (it : Item) (n total next : ℕ) (it' : Item) (next' : ℕ) → fitted it n total next ≡ Is it' next' → (Is it next ≡ Is it' next') × Fits n total it
+fitted_is : (it : Item) (n total next : ℕ) (it' : Item) (next' : ℕ) → fitted it n total next ≡ is it' next' → (is it next ≡ is it' next') × Fits n total it
 unfolding fitted
 fitted_is it n total next it' next' e =
     let a = passed (is_full it || ltb 0 n) First _ it' next' e in
@@ -43,7 +43,7 @@ fitted_is it n total next it' next' e =
     let d = passed (leb (total + lines_of it) 240) Lines _ it' next' b.1 in
     (d.1, record { first = λ z. sym (or-false (is_full it)) ∙ (ap (λ (k : ℕ). is_full it || ltb 0 k) (sym z) ∙ a.0); sound = b.0; lines = leb-true _ _ d.0 })
 
-pub taken : (s : List ℕ) (at n total : ℕ) (it : Item) (next : ℕ) → item_at s at n total ≡ Is it next → Taken s at n total it next
+pub taken : (s : List ℕ) (at n total : ℕ) (it : Item) (next : ℕ) → item_at s at n total ≡ is it next → Taken s at n total it next
 unfolding item_at
 taken s at n total it next e =
     let kind = number2 s (at + 2) in
@@ -53,8 +53,9 @@ taken s at n total it next e =
     let d = passed (eqb (number2 s at) size) Length _ it next b.1 in
     let f = passed (leb (4 + size) (length s - at)) PlanCut _ it next d.1 in
     let g = fitted_is (body_at s (at + 4) kind) n total (at + 4 + size) it next f.1 in
-    let here : at + 4 + size ≡ next = cc g.0 in
-    let same : body_at s (at + 4) kind ≡ it = cc g.0 in
+    let read : ◌≡◌ {A = ItemRead} (record { item = body_at s (at + 4) kind; next = at + 4 + size }) (record { item = it; next = next }) = cc g.0 in
+    let here : at + 4 + size ≡ next = ap (λ (r : ItemRead). r.next) read in
+    let same : body_at s (at + 4) kind ≡ it = ap (λ (r : ItemRead). r.item) read in
     let room = leb-true (4 + size) (length s - at) f.0 in
     record {
       kind = b.0;
@@ -67,7 +68,7 @@ taken s at n total it next e =
     }
 
 -- an item that was taken is read again
-pub taken_again : (s : List ℕ) (at n total : ℕ) (it : Item) (next : ℕ) → item_at s at n total ≡ Is it next → known_at s at ≡ Is it next
+pub taken_again : (s : List ℕ) (at n total : ℕ) (it : Item) (next : ℕ) → item_at s at n total ≡ is it next → known_at s at ≡ is it next
 unfolding known_at
 taken_again s at n total it next e =
     let i = taken s at n total it next e in

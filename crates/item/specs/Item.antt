@@ -1,5 +1,5 @@
 -- Document 01, "Plans": the items of a plan and their refusals.
-use Rattle.std.specs.Prelude.{Bool, true, false, cond, ◌&&◌, ◌||◌, List, [], ◌∷◌, ℕ, ◌+◌, ◌*◌, ◌-◌, eqb, ltb, leb, length, get_or}
+use Rattle.std.specs.Prelude.{Bool, true, false, cond, ◌&&◌, ◌||◌, List, [], ◌∷◌, ℕ, ◌+◌, ◌*◌, ◌-◌, eqb, ltb, leb, length, get_or, Result, Ok, Err}
 use Rattle.refusal.specs.Sheet.{number_of, Told, done, refused}
 use Rattle.refusal.specs.declared.Refusal.{Refusal}
 use Rattle.refusal.specs.declared.Refusal.TheVariants.{PlanCut, Kind, Length, Field, First, Lines}
@@ -7,8 +7,9 @@ use Rattle.item.specs.declared.Full.{Full}
 use Rattle.item.specs.declared.Running.{Running}
 use Rattle.item.specs.declared.Item.{Item}
 use Rattle.item.specs.declared.Item.TheVariants.{Full as full, Running as running}
-use Rattle.item.specs.declared.Read.{Read}
-use Rattle.item.specs.declared.Read.TheVariants.{Is, Bad}
+use Rattle.item.specs.declared.ItemRead.{ItemRead}
+use Rattle.item.specs.declared.ItemKind.{ItemKind}
+use Rattle.item.specs.declared.ItemKind.TheVariants.{Full as kind1, Running as kind2}
 
 -- "Items, little-endian": numbers of 2 and of 3 bytes
 abbrev pub number2 : List ℕ → ℕ → ℕ
@@ -133,18 +134,27 @@ body_size kind = cond (eqb kind 1) 23 7
 abbrev pub body_at : List ℕ → ℕ → ℕ → Item
 body_at s at kind = cond (eqb kind 1) (full (full_at s at)) (running (running_at s at))
 
+-- the number of a kind
+abbrev pub kind_number : ItemKind → ℕ
+kind_number kind1 = 1
+kind_number kind2 = 2
+
+-- an item was read, and where the next begins
+abbrev pub is : Item → ℕ → Result ItemRead Refusal
+is it next = Ok (record { item = it; next = next })
+
 -- the rest where the test holds, else the refusal: a chain of these is the order of the refusals
-abbrev pub must : Bool → Refusal → Read → Read
+abbrev pub must : Bool → Refusal → Result ItemRead Refusal → Result ItemRead Refusal
 must true why rest = rest
-must false why rest = Bad why
+must false why rest = Err why
 
 -- 10 "the first item is of kind 2", 9 "a field out of its range", 11 "lines so far, this item's included, exceed 240"
-unfoldable pub fitted : Item → ℕ → ℕ → ℕ → Read
+unfoldable pub fitted : Item → ℕ → ℕ → ℕ → Result ItemRead Refusal
 fitted it n total next =
-    must (is_full it || ltb 0 n) First (must (sound_item it) Field (must (leb (total + lines_of it) 240) Lines (Is it next)))
+    must (is_full it || ltb 0 n) First (must (sound_item it) Field (must (leb (total + lines_of it) 240) Lines (is it next)))
 
 -- the item at a place of a plan, n its number and total the lines before it: "5 (header), 7, 8, 5 (body), 10, 9, 11"
-unfoldable pub item_at : List ℕ → ℕ → ℕ → ℕ → Read
+unfoldable pub item_at : List ℕ → ℕ → ℕ → ℕ → Result ItemRead Refusal
 item_at s at n total =
     let kind = number2 s (at + 2) in
     let size = body_size kind in
@@ -155,21 +165,16 @@ item_at s at n total =
     (fitted (body_at s (at + 4) kind) n total (at + 4 + size)))))
 
 -- the item at a place where one was read before: nothing is asked but that its bytes are there
-unfoldable pub known_at : List ℕ → ℕ → Read
+unfoldable pub known_at : List ℕ → ℕ → Result ItemRead Refusal
 known_at s at =
     let kind = number2 s (at + 2) in
     let size = body_size kind in
-    must (leb (4 + size) (length s - at)) PlanCut (Is (body_at s (at + 4) kind) (at + 4 + size))
-
--- what is told of the item at a place: the item and where the next begins
-pub record ItemRead : Type 0 where
-  pub item : Item
-  pub next : ℕ
+    must (leb (4 + size) (length s - at)) PlanCut (is (body_at s (at + 4) kind) (at + 4 + size))
 
 -- the paper's number and values for each case: "Numbers 5 and 7 to 11 come with the item's number from 0"
-abbrev pub item_told : ℕ → Read → Told ItemRead
-item_told n (Is it next) = done (record { item = it; next = next })
-item_told n (Bad why) = refused (number_of why) n
+abbrev pub item_told : ℕ → Result ItemRead Refusal → Told ItemRead
+item_told n (Ok r) = done r
+item_told n (Err why) = refused (number_of why) n
 
 abbrev pub item_answer : List ℕ → ℕ → ℕ → ℕ → Told ItemRead
 item_answer s at n total = item_told n (item_at s at n total)

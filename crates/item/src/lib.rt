@@ -1,11 +1,11 @@
 #![tactic(auto)]
 
-ghost use Rattle.std.specs.Prelude.{◌≡◌, ◌+◌, ◌-◌, ◌≤◌, length};
-ghost use Rattle.item.specs.Item.{number2, number3, full_at, running_at, sound_full, sound_running, sound_item, lines_of, is_full, body_size, body_at, fitted, item_told, item_answer, known_at};
+ghost use Rattle.std.specs.Prelude.{◌≡◌, ◌≢◌, ◌+◌, ◌≤◌, length, MatchOption};
+ghost use Rattle.item.specs.Item.{number2, number3, full_at, running_at, sound_full, sound_running, sound_item, lines_of, is_full, body_size, body_at, fitted, kind_number, item_told, item_answer, known_at};
 
-use refusal::Refusal;
+use refusal::{Refusal, ask};
 
-// Kind 1, a full band, field by field as the plan has it.
+// ItemKind 1, a full band, field by field as the plan has it.
 #[derive(Clone, Copy)]
 pub struct Full {
     pub lines: u8,
@@ -27,7 +27,7 @@ pub struct Full {
     pub priority: u8,
 }
 
-// Kind 2, running on: all else runs on from above.
+// ItemKind 2, running on: all else runs on from above.
 #[derive(Clone, Copy)]
 pub struct Running {
     pub lines: u8,
@@ -54,11 +54,18 @@ impl Item {
     pub const ADDRESS: u32 = 524287;
 }
 
-// What stands at a place of a plan: an item and where the next begins, or why it is refused.
+// What is read at a place of a plan: an item, and where the next begins.
 #[derive(Clone, Copy)]
-pub enum Read {
-    Is(Item, usize),
-    Bad(Refusal),
+pub struct ItemRead {
+    pub item: Item,
+    pub next: usize,
+}
+
+// The kinds of an item.
+#[derive(Clone, Copy)]
+enum ItemKind {
+    Full,
+    Running,
 }
 
 // Two bytes, low first.
@@ -78,25 +85,22 @@ fn number_3(plan: &[u8], at: usize) -> u32
 }
 
 // The 23 bytes of a full band's body.
+#[tactic(auto, unfolding(crate::specs::Item::full_at))]
 fn full_at(plan: &[u8], at: usize) -> Full
     requires { at + 23 ≤ length plan.now }
     ensures { result ≡ full_at plan.now at }
 {
-    let address = number_3(plan, at + 2);
-    let step = number_2(plan, at + 5);
-    let mapaddress = number_3(plan, at + 11);
-    let mapstep = number_2(plan, at + 14);
     Full {
         lines: plan[at],
         mode: plan[at + 1],
-        address,
-        step,
+        address: number_3(plan, at + 2),
+        step: number_2(plan, at + 5),
         hscroll: plan[at + 7],
         vscroll: plan[at + 8],
         font: plan[at + 9],
         map: plan[at + 10],
-        mapaddress,
-        mapstep,
+        mapaddress: number_3(plan, at + 11),
+        mapstep: number_2(plan, at + 14),
         maphscroll: plan[at + 16],
         mapvscroll: plan[at + 17],
         fieldwidth: plan[at + 18],
@@ -108,6 +112,7 @@ fn full_at(plan: &[u8], at: usize) -> Full
 }
 
 // The 7 bytes of a running-on body.
+#[tactic(auto, unfolding(crate::specs::Item::running_at))]
 fn running_at(plan: &[u8], at: usize) -> Running
     requires { at + 7 ≤ length plan.now }
     ensures { result ≡ running_at plan.now at }
@@ -181,93 +186,91 @@ pub fn lines_of(it: Item) -> u8
 fn is_full(it: Item) -> bool
     ensures { result ≡ is_full it }
 {
-    match it {
-        Item::Full(_) => true,
-        Item::Running(_) => false,
-    }
+    matches!(it, Item::Full(_))
 }
 
 // An item as it was read, if it may stand there: 10 first, 9 field, 11 lines.
-fn fitting(it: Item, n: u32, total: u8, next: usize) -> Read
-    ensures { result ≡ fitted it n total next }
+#[tactic(auto, unfolding(crate::specs::Item::fitted))]
+fn fitting(item: Item, n: u32, total: u8, next: usize) -> Result<ItemRead, Refusal>
+    ensures { result ≡ fitted item n total next }
 {
-    if !(is_full(it) | (0 < n)) {
-        return Read::Bad(Refusal::First);
-    }
-    if !sound_item(it) {
-        return Read::Bad(Refusal::Field);
-    }
-    if (Item::LINES as u16) < total as u16 + lines_of(it) as u16 {
-        return Read::Bad(Refusal::Lines);
-    }
-    Read::Is(it, next)
+    ask(is_full(item) | (0 < n), Refusal::First)?;
+    ask(sound_item(item), Refusal::Field)?;
+    ask(
+        total as u16 + lines_of(item) as u16 <= Item::LINES as u16,
+        Refusal::Lines,
+    )?;
+    Ok(ItemRead { item, next })
 }
 
-// The length of a body, kind 1 or else kind 2.
-fn body_size(kind: u16) -> u16
-    ensures { result ≡ body_size kind }
+// The kind that a number stands for, if it is one.
+fn kind_of(number: u16) -> Option<ItemKind>
+    ensures { MatchOption result ((number ≢ 1) × (number ≢ 2)) (λ kind. number ≡ kind_number kind) }
 {
-    if kind == 1 { 23 } else { 7 }
+    match number {
+        1 => Some(ItemKind::Full),
+        2 => Some(ItemKind::Running),
+        _ => None,
+    }
 }
 
-fn body_at(plan: &[u8], at: usize, kind: u16) -> Item
-    requires { at + body_size kind ≤ length plan.now }
-    ensures { result ≡ body_at plan.now at kind }
+// The length of a body.
+fn body_size(kind: ItemKind) -> u16
+    ensures { result ≡ body_size (kind_number kind) }
 {
-    if kind == 1 {
-        return Item::Full(full_at(plan, at));
+    match kind {
+        ItemKind::Full => 23,
+        ItemKind::Running => 7,
     }
-    Item::Running(running_at(plan, at))
 }
 
-// How many bytes a plan has from a place on.
-fn left_at(plan: &[u8], at: usize) -> usize
-    ensures { result ≡ length plan.now - at }
+fn body_at(plan: &[u8], at: usize, kind: ItemKind) -> Item
+    requires { at + body_size (kind_number kind) ≤ length plan.now }
+    ensures { result ≡ body_at plan.now at (kind_number kind) }
 {
-    if plan.len() < at {
-        return 0;
+    match kind {
+        ItemKind::Full => Item::Full(full_at(plan, at)),
+        ItemKind::Running => Item::Running(running_at(plan, at)),
     }
-    plan.len() - at
 }
 
 // The item at a place of a plan: n is its number, total the lines of the items before it.
 // 5 header, 7 kind, 8 length, 5 body, then the item's own. The compiler's first pass reads by this.
-pub fn item_at(plan: &[u8], at: usize, n: u32, total: u8) -> Read
+#[tactic(auto, unfolding(crate::specs::Item::item_at))]
+pub fn item_at(plan: &[u8], at: usize, n: u32, total: u8) -> Result<ItemRead, Refusal>
     ensures { item_told n result ≡ item_answer plan.now at n total }
 {
-    let left = left_at(plan, at);
-    if left < 4 {
-        return Read::Bad(Refusal::PlanCut);
-    }
-    let kind = number_2(plan, at + 2);
-    if !((kind == 1) | (kind == 2)) {
-        return Read::Bad(Refusal::Kind);
-    }
+    let left = plan.len().saturating_sub(at);
+    ask(4 <= left, Refusal::PlanCut)?;
+    let kind = kind_of(number_2(plan, at + 2)).ok_or(Refusal::Kind)?;
     let size = body_size(kind);
-    if number_2(plan, at) != size {
-        return Read::Bad(Refusal::Length);
-    }
-    if left < 4 + size as usize {
-        return Read::Bad(Refusal::PlanCut);
-    }
-    let it = body_at(plan, at + 4, kind);
-    fitting(it, n, total, at + 4 + size as usize)
+    ask(number_2(plan, at) == size, Refusal::Length)?;
+    ask(4 + size as usize <= left, Refusal::PlanCut)?;
+    fitting(
+        body_at(plan, at + 4, kind),
+        n,
+        total,
+        at + 4 + size as usize,
+    )
 }
 
 // The item at a place where one was read before: nothing is tested but that its bytes are there. The compiler's second pass
 // reads by this. Each kind answers by itself and not through `body_at`, so that the item need not go through memory.
-pub fn known_at(plan: &[u8], at: usize) -> Read
+#[tactic(auto, unfolding(crate::specs::Item::known_at))]
+pub fn known_at(plan: &[u8], at: usize) -> Result<ItemRead, Refusal>
     ensures { result ≡ known_at plan.now at }
 {
-    let left = left_at(plan, at);
-    if left < 4 + 7 {
-        return Read::Bad(Refusal::PlanCut);
-    }
+    let left = plan.len().saturating_sub(at);
+    ask(4 + 7 <= left, Refusal::PlanCut)?;
     if number_2(plan, at + 2) != 1 {
-        return Read::Is(Item::Running(running_at(plan, at + 4)), at + 4 + 7);
+        return Ok(ItemRead {
+            item: Item::Running(running_at(plan, at + 4)),
+            next: at + 4 + 7,
+        });
     }
-    if left < 4 + 23 {
-        return Read::Bad(Refusal::PlanCut);
-    }
-    Read::Is(Item::Full(full_at(plan, at + 4)), at + 4 + 23)
+    ask(4 + 23 <= left, Refusal::PlanCut)?;
+    Ok(ItemRead {
+        item: Item::Full(full_at(plan, at + 4)),
+        next: at + 4 + 23,
+    })
 }

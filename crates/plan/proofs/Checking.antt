@@ -5,31 +5,30 @@ use Prim.Native.Nat.{ℕ, ◌+◌, ◌*◌, ◌≤◌, ◌<◌, zero-le}
 use native.Mathlib.Nat.{zero-add, add-zero}
 use native.Mathlib.Omega.{arith}
 use lib.ListN.{length, length-append}
+use Rattle.std.specs.Prelude.{Result, Ok, Err}
 use Rattle.refusal.specs.declared.Refusal.{Refusal}
-use Rattle.item.specs.Item.{lines_of, item_at}
+use Rattle.item.specs.Item.{is, lines_of, item_at}
 use Rattle.item.specs.declared.Item.{Item}
-use Rattle.item.specs.declared.Read.TheVariants.{Is, Bad}
 use Rattle.item.proofs.Ranges.{some_line}
 use Rattle.item.proofs.Taken.{taken}
 use Rattle.plan.specs.Plan.{Parsed, good, bad, with, rest}
 use Rattle.plan.specs.Xdl.{record_size, bytes_of}
-use Rattle.plan.specs.Compile.{checked_of}
-use Rattle.plan.specs.declared.Compiled.{Compiled}
-use Rattle.plan.specs.declared.Compiled.TheVariants.{Done, Refused}
+use Rattle.plan.specs.Compile.{at_item, checked_of}
+use Rattle.plan.specs.declared.ItemRefusal.{ItemRefusal}
 use Rattle.plan.proofs.Records.{length_record, size_le}
 use Rattle.plan.proofs.Walk.{rest_end, rest_bad, rest_item}
 
 -- what the pass tells, w bytes being counted already
-abbrev summed : ℕ → Parsed → Compiled
-summed w (good l) = Done (w + length (bytes_of l))
-summed w (bad why n) = Refused why n
+abbrev summed : ℕ → Parsed → Result ℕ ItemRefusal
+summed w (good l) = Ok (w + length (bytes_of l))
+summed w (bad why n) = Err (at_item why n)
 
 summed_zero : (p : Parsed) → summed 0 p ≡ checked_of p
-summed_zero (good l) = ap Done (zero-add (length (bytes_of l)))
+summed_zero (good l) = ap Ok (zero-add (length (bytes_of l)))
 summed_zero (bad why n) = refl
 
 summed_with : (w : ℕ) (it : Item) (p : Parsed) → summed w (with it p) ≡ summed (w + record_size it) p
-summed_with w it (good l) = ap Done (simp (length-append, length_record) (omega arith))
+summed_with w it (good l) = ap Ok (simp (length-append, length_record) (omega arith))
 summed_with w it (bad why n) = refl
 
 pub record Checking (s : List ℕ) (at n total bytes : ℕ) : Type 0 where
@@ -47,7 +46,7 @@ check_start s =
 module _ (s : List ℕ) (at n total bytes : ℕ) (w : Checking s at n total bytes) where
   -- an item is counted: its size and its lines as the code has them
   pub check_turn :
-      (it : Item) (next k t : ℕ) → at < length s → item_at s at n total ≡ Is it next → k ≡ record_size it → t ≡ lines_of it
+      (it : Item) (next k t : ℕ) → at < length s → item_at s at n total ≡ is it next → k ≡ record_size it → t ≡ lines_of it
       → Checking s next (n + 1) (total + t) (bytes + k)
   check_turn it next k t lt e ek et =
       let i = taken s at n total it next e in
@@ -65,8 +64,8 @@ module _ (s : List ℕ) (at n total bytes : ℕ) (w : Checking s at n total byte
             ∙ (ap (summed bytes) (sym (rest_item s at n total lt w.numbered it next e)) ∙ w.same);
       })
 
-  pub check_bad : (why : Refusal) → at < length s → item_at s at n total ≡ Bad why → Refused why n ≡ checked_of (rest s 0 0 0)
+  pub check_bad : (why : Refusal) → at < length s → item_at s at n total ≡ Err why → Err (at_item why n) ≡ checked_of (rest s 0 0 0)
   check_bad why lt e = ap (summed bytes) (sym (rest_bad s at n total lt w.numbered why e)) ∙ w.same
 
-  pub check_end : length s ≤ at → Done bytes ≡ checked_of (rest s 0 0 0)
-  check_end h = ap Done (sym (add-zero bytes)) ∙ (ap (summed bytes) (sym (rest_end s at n total h)) ∙ w.same)
+  pub check_end : length s ≤ at → Ok bytes ≡ checked_of (rest s 0 0 0)
+  check_end h = ap Ok (sym (add-zero bytes)) ∙ (ap (summed bytes) (sym (rest_end s at n total h)) ∙ w.same)

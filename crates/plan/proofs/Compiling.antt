@@ -6,33 +6,33 @@ use native.Mathlib.Omega.{arith}
 use lib.Dec.{leb}
 use lib.ListN.{length, drop}
 use borrow.Author.Tests.{le-leb, lt-leb, leb-true}
+use Rattle.std.specs.Prelude.{Result, Ok, Err}
 use Rattle.refusal.specs.Sheet.{done}
 use Rattle.refusal.specs.declared.Refusal.{Refusal}
 use Rattle.refusal.specs.declared.Refusal.TheVariants.{Room}
 use Rattle.refusal.proofs.Sheet.{passed, refused_done}
 use Rattle.plan.specs.Plan.{Parsed, good, bad, parse, items_of}
 use Rattle.plan.specs.Xdl.{bytes_of, xdl_bytes}
-use Rattle.plan.specs.Compile.{compile_told, checked_of, fitting, compile_answer, compile_output}
-use Rattle.plan.specs.declared.Compiled.{Compiled}
-use Rattle.plan.specs.declared.Compiled.TheVariants.{Done, Refused}
+use Rattle.plan.specs.Compile.{at_item, compile_told, checked_of, fitting, compile_answer, compile_output}
+use Rattle.plan.specs.declared.ItemRefusal.{ItemRefusal}
 use Rattle.plan.proofs.Valid.{xdl_at_most}
 
 -- a call's two clauses
-abbrev Is : List ℕ → List ℕ → List ℕ → Compiled → Type 0
+abbrev Is : List ℕ → List ℕ → List ℕ → Result ℕ ItemRefusal → Type 0
 Is plan out out' r = (compile_told r ≡ compile_answer plan (length out)) × (out' ≡ compile_output plan out)
 
 module _ (plan out : List ℕ) where
   -- a refusal of the first pass
-  pub compile_refused : (why : Refusal) (n : ℕ) → checked_of (parse plan) ≡ Refused why n → Is plan out out (Refused why n)
+  pub compile_refused : (why : Refusal) (n : ℕ) → checked_of (parse plan) ≡ Err (at_item why n) → Is plan out out (Err (at_item why n))
   unfolding compile_answer compile_output
   compile_refused why n e = simp e (refl, refl)
 
-  module _ (b : ℕ) (e : checked_of (parse plan) ≡ Done b) where
-    pub compile_room : length out < b → Is plan out out (Refused Room 0)
+  module _ (b : ℕ) (e : checked_of (parse plan) ≡ Ok b) where
+    pub compile_room : length out < b → Is plan out out (Err (at_item Room 0))
     unfolding compile_answer compile_output
     compile_room h = simp (e, lt-leb b (length out) h) (refl, refl)
 
-    checked : (p : Parsed) → checked_of p ≡ Done b → (p ≡ good (items_of p)) × (length (bytes_of (items_of p)) ≡ b)
+    checked : (p : Parsed) → checked_of p ≡ Ok b → (p ≡ good (items_of p)) × (length (bytes_of (items_of p)) ≡ b)
     checked (good l) c = (refl, cc)
     checked (bad why n) c = refused_done (ap compile_told c)
 
@@ -42,7 +42,7 @@ module _ (plan out : List ℕ) where
     write_may_begin h = let g = checked (parse plan) e in (g.0, omega arith)
 
     pub compile_done :
-        (out' : List ℕ) → b ≤ length out → out' ≡ xdl_bytes plan ++ drop (length (xdl_bytes plan)) out → Is plan out out' (Done b)
+        (out' : List ℕ) → b ≤ length out → out' ≡ xdl_bytes plan ++ drop (length (xdl_bytes plan)) out → Is plan out out' (Ok b)
     unfolding compile_answer compile_output
     compile_done out' h w = simp (e, le-leb b (length out) h) (refl, w)
 

@@ -11,3 +11,4 @@ pub mod Before
 pub mod Apart
 mod Cases
 mod Once
+mod Refusing

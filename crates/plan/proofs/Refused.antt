@@ -8,14 +8,14 @@ use native.Mathlib.Omega.{arith}
 use lib.Dec.{eqb, leb}
 use lib.ListN.{length, length-append}
 use borrow.Author.Tests.{lt-ltb, le-ltb, lt-leb}
+use Rattle.std.specs.Prelude.{Result, Ok, Err}
 use Rattle.refusal.specs.Sheet.{Told, done, refused, unless}
 use Rattle.refusal.specs.declared.Refusal.{Refusal}
 use Rattle.refusal.specs.declared.Refusal.TheVariants.{NoBand}
 use Rattle.refusal.proofs.Sheet.{done_refused}
 use Rattle.item.specs.Item.{lines_of, item_at}
 use Rattle.item.specs.declared.Item.{Item}
-use Rattle.item.specs.declared.Read.{Read}
-use Rattle.item.specs.declared.Read.TheVariants.{Is, Bad}
+use Rattle.item.specs.declared.ItemRead.{ItemRead}
 use Rattle.item.proofs.Ranges.{some_line}
 use Rattle.item.proofs.Taken.{taken}
 use Rattle.plan.specs.Plan.{Parsed, good, bad, with, parse_from, rest, parse}
@@ -36,16 +36,16 @@ module _ (s : List ℕ) (why : Refusal) (k : ℕ) where
   Small f at n total = n ≤ total → total ≤ 240 → parse_from f s at n total ≡ bad why k → k ≤ 240
 
   from_item :
-      (r : Read) (f at n total : ℕ) → at < length s → item_at s at n total ≡ r → ((next m t : ℕ) → Small f next m t) → Small (suc f) at n total
+      (r : Result ItemRead Refusal) (f at n total : ℕ) → at < length s → item_at s at n total ≡ r → ((next m t : ℕ) → Small f next m t) → Small (suc f) at n total
   unfolding parse_from
-  from_item (Bad w) f at n total lt i more h l e =
+  from_item (Err w) f at n total lt i more h l e =
       let z : bad w n ≡ bad why k = simp (lt-ltb at (length s) lt, i) at e in
       let same : n ≡ k = cc z in
       omega arith
-  from_item (Is it next) f at n total lt i more h l e =
-      let t = taken s at n total it next i in
-      let z : with it (parse_from f s next (n + 1) (total + lines_of it)) ≡ bad why k = simp (lt-ltb at (length s) lt, i) at e in
-      more next (n + 1) (total + lines_of it) (omega (arith, some_line it t.fits.sound)) t.fits.lines (bad_with it _ why k z)
+  from_item (Ok r) f at n total lt i more h l e =
+      let t = taken s at n total r.item r.next i in
+      let z : with r.item (parse_from f s r.next (n + 1) (total + lines_of r.item)) ≡ bad why k = simp (lt-ltb at (length s) lt, i) at e in
+      more r.next (n + 1) (total + lines_of r.item) (omega (arith, some_line r.item t.fits.sound)) t.fits.lines (bad_with r.item _ why k z)
 
   from_end : (f at n total : ℕ) → length s ≤ at → Small (suc f) at n total
   unfolding parse_from

@@ -11,12 +11,11 @@ use lib.ListN.{length, get_or, take, drop, length-append, length-drop, take-appe
 use lib.Seq.{get_or-drop, drop-drop, drop-cons, drop_at}
 use borrow.Author.Tests.{lt-ltb, le-leb, eq-eqb, eqb-true}
 use Rattle.vram.specs.Memory.{Bytes}
-use Rattle.item.specs.Item.{number2, full_at, running_at, sound_item, lines_of, is_full, body_size, body_at, fitted, item_at}
+use Rattle.item.specs.Item.{is, number2, full_at, running_at, sound_item, lines_of, is_full, body_size, body_at, fitted, item_at}
 use Rattle.item.specs.declared.Full.{Full}
 use Rattle.item.specs.declared.Running.{Running}
 use Rattle.item.specs.declared.Item.{Item}
 use Rattle.item.specs.declared.Item.TheVariants.{Full as full, Running as running}
-use Rattle.item.specs.declared.Read.TheVariants.{Is}
 use Rattle.item.proofs.Taken.{taken}
 use Rattle.plan.specs.Plan.{good, with, rest}
 use Rattle.plan.specs.Rules.{full_bytes, running_bytes, item_bytes, plan_bytes, StartsFull, AllSound, lines_in, RulesSuffice, RulesNeeded}
@@ -136,7 +135,7 @@ module _ (xs : List ℕ) where
         (by_kind k known)
 
 module _ (s : List ℕ) (b : Bytes s) where
-  item_forth : (at n total : ℕ) (it : Item) (next : ℕ) → item_at s at n total ≡ Is it next → drop at s ≡ item_bytes it ++ drop next s
+  item_forth : (at n total : ℕ) (it : Item) (next : ℕ) → item_at s at n total ≡ is it next → drop at s ≡ item_bytes it ++ drop next s
   item_forth at n total it next e =
       let t = taken s at n total it next e in
       let k = number2 s (at + 2) in
@@ -185,7 +184,7 @@ unfolding full_bytes running_bytes running_at
 front (full b) more = record { size = refl; kind = refl; body = ap full (full_back b more); known = refl; long = refl }
 front (running b) more = record { size = refl; kind = refl; body = refl; known = refl; long = refl }
 
-fits : (it : Item) (n total next : ℕ) → (is_full it ≡ true) ⊎ (0 < n) → sound_item it ≡ true → total + lines_of it ≤ 240 → fitted it n total next ≡ Is it next
+fits : (it : Item) (n total next : ℕ) → (is_full it ≡ true) ⊎ (0 < n) → sound_item it ≡ true → total + lines_of it ≤ 240 → fitted it n total next ≡ is it next
 unfolding fitted
 fits it n total next first sound lines =
     let one : is_full it || ltb 0 n ≡ true = ⊎_elim (λ (e : is_full it ≡ true). simp e) (λ (e : 0 < n). simp (lt-ltb 0 n e, or-true)) first in
@@ -194,7 +193,7 @@ fits it n total next first sound lines =
 item_back :
     (s : List ℕ) (at n total : ℕ) (more : List ℕ) (it : Item) → drop at s ≡ item_bytes it ++ more → (is_full it ≡ true) ⊎ (0 < n) → sound_item it ≡ true
     → total + lines_of it ≤ 240
-    → item_at s at n total ≡ Is it (at + length (item_bytes it))
+    → item_at s at n total ≡ is it (at + length (item_bytes it))
 unfolding item_at
 item_back s at n total more it e first sound lines =
     let f = front it more in
@@ -205,7 +204,7 @@ item_back s at n total more it e first sound lines =
     let long : length s - at ≡ length (item_bytes it) + length more = sym (length-drop at s) ∙ (ap length e ∙ length-append (item_bytes it) more) in
     rw (kind, size, body)
     (simp (f.known, eq-eqb (body_size k) (body_size k) refl, le-leb 4 (length s - at) (omega (arith, f.long)), le-leb (4 + body_size k) (length s - at) (omega (arith, f.long)))
-    (fits it n total (at + 4 + body_size k) first sound lines ∙ ap (λ (j : ℕ). Is it j) (omega (arith, f.long))))
+    (fits it n total (at + 4 + body_size k) first sound lines ∙ ap (λ (j : ℕ). is it j) (omega (arith, f.long))))
 
 -- an item has a byte
 item_some : (it : Item) → 1 ≤ length (item_bytes it)

@@ -10,10 +10,10 @@ use lib.ListN.{length}
 use borrow.Author.Tests.{lt-ltb, le-ltb, eq-eqb, ne_eqb}
 use Rattle.refusal.specs.declared.Refusal.{Refusal}
 use Rattle.refusal.specs.declared.Refusal.TheVariants.{NoBand}
-use Rattle.item.specs.Item.{lines_of, item_at}
+use Rattle.item.specs.Item.{is, lines_of, item_at}
 use Rattle.item.specs.declared.Item.{Item}
-use Rattle.item.specs.declared.Read.{Read}
-use Rattle.item.specs.declared.Read.TheVariants.{Is, Bad}
+use Rattle.item.specs.declared.ItemRead.{ItemRead}
+use Rattle.std.specs.Prelude.{Result, Ok, Err}
 use Rattle.plan.specs.Plan.{Parsed, good, bad, with, parse_from, rest, parse, items_of}
 use Rattle.plan.specs.Xdl.{is_last, bytes_of, xdl_bytes}
 
@@ -38,13 +38,13 @@ fuel l n h = omega arith
 
 module _ (s : List ℕ) (at n total : ℕ) (lt : at < length s) (few : n ≤ at) where
   -- at an item that is refused
-  pub rest_bad : (why : Refusal) → item_at s at n total ≡ Bad why → rest s at n total ≡ bad why n
+  pub rest_bad : (why : Refusal) → item_at s at n total ≡ Err why → rest s at n total ≡ bad why n
   unfolding rest parse_from
   rest_bad why e = rw (fuel (length s) n (omega arith)) (simp (lt-ltb _ _ lt, e))
 
   -- at an item that is taken
   pub rest_item :
-      (it : Item) (next : ℕ) → item_at s at n total ≡ Is it next
+      (it : Item) (next : ℕ) → item_at s at n total ≡ is it next
       → rest s at n total ≡ with it (rest s next (n + 1) (total + lines_of it))
   unfolding rest parse_from
   rest_item it next e = rw (fuel (length s) n (omega arith)) (simp (lt-ltb _ _ lt, e))
@@ -61,25 +61,25 @@ tail_good it (bad why n) l e = bad_good e
 -- the walk taken apart at its first item
 pub record Uncons (s : List ℕ) (at n total : ℕ) (it : Item) (l : List Item) : Type 0 where
   pub next : ℕ
-  pub item : item_at s at n total ≡ Is it next
+  pub item : item_at s at n total ≡ is it next
   pub more : rest s next (n + 1) (total + lines_of it) ≡ good l
 
 pub uncons :
     (s : List ℕ) (at n total : ℕ) (it : Item) (l : List Item) → n ≤ at → rest s at n total ≡ good (it ∷ l) → Uncons s at n total it l
 uncons s at n total it l few e = go (dec_lt at (length s))
   where
-    some : (r : Read) → at < length s → item_at s at n total ≡ r → Uncons s at n total it l
-    some (Is here next) lt i =
-        let later = rest s next (n + 1) (total + lines_of here) in
-        let t = tail_good here later (it ∷ l) (sym (rest_item s at n total lt few here next i) ∙ e) in
-        let same : here ≡ it = cc t.items in
+    some : (r : Result ItemRead Refusal) → at < length s → item_at s at n total ≡ r → Uncons s at n total it l
+    some (Ok r) lt i =
+        let later = rest s r.next (n + 1) (total + lines_of r.item) in
+        let t = tail_good r.item later (it ∷ l) (sym (rest_item s at n total lt few r.item r.next i) ∙ e) in
+        let same : r.item ≡ it = cc t.items in
         let tail : items_of later ≡ l = cc t.items in
         record {
-          next = next;
-          item = i ∙ ap (λ (x : Item). Is x next) same;
-          more = ap (λ (x : Item). rest s next (n + 1) (total + lines_of x)) (sym same) ∙ (t.tail ∙ ap good tail);
+          next = r.next;
+          item = i ∙ ap (λ (x : Item). is x r.next) same;
+          more = ap (λ (x : Item). rest s r.next (n + 1) (total + lines_of x)) (sym same) ∙ (t.tail ∙ ap good tail);
         }
-    some (Bad why) lt i = bad_good (sym (rest_bad s at n total lt few why i) ∙ e)
+    some (Err why) lt i = bad_good (sym (rest_bad s at n total lt few why i) ∙ e)
 
     go : Dec (at < length s) → Uncons s at n total it l
     go (yes lt) = some (item_at s at n total) lt refl
@@ -91,11 +91,11 @@ last_is s at n total (it ∷ l) few h e = ne_eqb at (length s) (λ end.
     none_some (ap items_of (sym (rest_end s at n total (omega arith)) ∙ e)))
 last_is s at n total [] few h e = go (dec_lt at (length s))
   where
-    some : (r : Read) → at < length s → item_at s at n total ≡ r → eqb at (length s) ≡ true
-    some (Is it next) lt i =
-        let t = tail_good it (rest s next (n + 1) (total + lines_of it)) [] (sym (rest_item s at n total lt few it next i) ∙ e) in
+    some : (r : Result ItemRead Refusal) → at < length s → item_at s at n total ≡ r → eqb at (length s) ≡ true
+    some (Ok r) lt i =
+        let t = tail_good r.item (rest s r.next (n + 1) (total + lines_of r.item)) [] (sym (rest_item s at n total lt few r.item r.next i) ∙ e) in
         none_some t.items
-    some (Bad why) lt i = bad_good (sym (rest_bad s at n total lt few why i) ∙ e)
+    some (Err why) lt i = bad_good (sym (rest_bad s at n total lt few why i) ∙ e)
 
     go : Dec (at < length s) → eqb at (length s) ≡ true
     go (yes lt) = some (item_at s at n total) lt refl

@@ -8,12 +8,12 @@ use lib.Dec.{eqb}
 use lib.ListN.{length, take, drop, length-append, length-drop, take-append-drop}
 use lib.Seq.{length-take-le}
 use borrow.Rule.Slice.PartMut.{put_mid}
+use Rattle.std.specs.Prelude.{Result, Ok, Err}
 use Rattle.laws.proofs.Lent.{tail_lent, filled}
 use Rattle.refusal.specs.declared.Refusal.{Refusal}
-use Rattle.item.specs.Item.{sound_item, lines_of, item_at, known_at}
+use Rattle.item.specs.Item.{is, sound_item, lines_of, item_at, known_at}
 use Rattle.item.specs.declared.Item.{Item}
-use Rattle.item.specs.declared.Read.{Read}
-use Rattle.item.specs.declared.Read.TheVariants.{Is, Bad}
+use Rattle.item.specs.declared.ItemRead.{ItemRead}
 use Rattle.item.proofs.Taken.{Taken, taken, taken_again}
 use Rattle.plan.specs.Plan.{Parsed, good, rest, parse, items_of}
 use Rattle.plan.specs.Xdl.{record_bytes, record_size, bytes_of, xdl_bytes}
@@ -55,23 +55,23 @@ module _ (s first out : List ℕ) (at to : ℕ) (w : Writing s first out at to) 
   total = w.total
 
   -- the first pass refused none
-  refused : {A : Type 0} (why : Refusal) → item_at s at n total ≡ Bad why → A
+  refused : {A : Type 0} (why : Refusal) → item_at s at n total ≡ Err why → A
   refused why e = bad_good (sym (rest_bad s at n total lt w.numbered why e) ∙ w.well)
 
   -- so this one reads what that took
   again : item_at s at n total ≡ known_at s at
   again = go (item_at s at n total) refl
     where
-      go : (r : Read) → item_at s at n total ≡ r → item_at s at n total ≡ known_at s at
-      go (Is it next) e = e ∙ sym (taken_again s at n total it next e)
-      go (Bad why) e = refused why e
+      go : (r : Result ItemRead Refusal) → item_at s at n total ≡ r → item_at s at n total ≡ known_at s at
+      go (Ok r) e = e ∙ sym (taken_again s at n total r.item r.next e)
+      go (Err why) e = refused why e
 
   -- and refuses none either
-  pub write_never : {A : Type 0} (why : Refusal) → known_at s at ≡ Bad why → A
+  pub write_never : {A : Type 0} (why : Refusal) → known_at s at ≡ Err why → A
   write_never why e = refused why (again ∙ e)
 
-  module _ (it : Item) (next : ℕ) (known : known_at s at ≡ Is it next) where
-    read : item_at s at n total ≡ Is it next
+  module _ (it : Item) (next : ℕ) (known : known_at s at ≡ is it next) where
+    read : item_at s at n total ≡ is it next
     read = again ∙ known
 
     pub write_taken : Taken s at n total it next

@@ -1,11 +1,10 @@
 -- Document 01, "Refusal numbers" and "Plans": the items of a plan, or its first refusal with the item's number.
-use Rattle.std.specs.Prelude.{cond, List, [], ◌∷◌, ℕ, zero, suc, ◌+◌, ◌-◌, eqb, ltb, length}
+use Rattle.std.specs.Prelude.{cond, List, [], ◌∷◌, ℕ, zero, suc, ◌+◌, ◌-◌, eqb, ltb, length, Result, Ok, Err}
 use Rattle.refusal.specs.declared.Refusal.{Refusal}
 use Rattle.refusal.specs.declared.Refusal.TheVariants.{NoBand}
 use Rattle.item.specs.Item.{lines_of, item_at}
 use Rattle.item.specs.declared.Item.{Item}
-use Rattle.item.specs.declared.Read.{Read}
-use Rattle.item.specs.declared.Read.TheVariants.{Is, Bad}
+use Rattle.item.specs.declared.ItemRead.{ItemRead}
 
 -- the items, or the first refusal and the number of its item
 pub data Parsed : Type 0 where
@@ -18,9 +17,9 @@ with it (good l) = good (it ∷ l)
 with it (bad why n) = bad why n
 
 -- what stands at a place, item n, leads to, where `on` reads on
-abbrev pub with_rest : Read → ℕ → (Item → ℕ → Parsed) → Parsed
-with_rest (Is it next) n on = with it (on it next)
-with_rest (Bad why) n on = bad why n
+abbrev pub with_rest : Result ItemRead Refusal → ℕ → (Item → ℕ → Parsed) → Parsed
+with_rest (Ok r) n on = with r.item (on r.item r.next)
+with_rest (Err why) n on = bad why n
 
 -- "item by item", from a place on. The first number only makes the definition end: an item has more than one byte
 unfoldable pub parse_from : ℕ → List ℕ → ℕ → ℕ → ℕ → Parsed

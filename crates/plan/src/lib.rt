@@ -1,29 +1,39 @@
 #![tactic(auto)]
 
 ghost use Rattle.std.specs.Prelude.{◌≡◌, true, ◌++◌, ◌≤◌, length, drop};
-ghost use Rattle.item.specs.Item.{sound_full, sound_running, sound_item};
+ghost use Rattle.item.specs.Item.{sound_full, sound_running, sound_item, item_at};
 ghost use Rattle.plan.specs.Plan.{good, parse, items_of};
 ghost use Rattle.plan.specs.Xdl.{overlay_bit, map_bit, resolution_bit, end_bit, full_record, running_record, record_size, record_bytes, xdl_bytes};
-ghost use Rattle.plan.specs.Compile.{checked_of, compile_told, compile_answer, compile_output};
+ghost use Rattle.plan.specs.Compile.{at_item, numbered, checked_of, compile_told, compile_answer, compile_output};
 
-use item::{Full, Item, Read, Running};
-use refusal::Refusal;
+use item::{Full, Item, ItemRead, Running};
+use refusal::{Refusal, ask};
 
-// What compiling tells: the number of bytes, or why it is refused and at which item.
-#[derive(Clone, Copy)]
-pub enum Compiled {
-    Done(usize),
-    Refused(Refusal, u32),
+// Why a plan is refused, and at which item.
+#[derive(Clone, Copy, Debug, PartialEq, Eq)]
+pub struct ItemRefusal {
+    pub why: Refusal,
+    pub item: u32,
+}
+
+// A refusal that has no item of its own has item 0.
+impl From<Refusal> for ItemRefusal {
+    ghost from_gives = { λ why r. r ≡ at_item why 0 };
+
+    fn from(why: Refusal) -> ItemRefusal {
+        ItemRefusal { why, item: 0 }
+    }
 }
 
 // TMON for text, GMON for the pixel modes, OVOFF where the overlay is off.
 fn overlay_bit(mode: u8) -> u8
     ensures { (result ≡ overlay_bit mode) × (result ≤ 4) }
 {
-    if mode == 0 {
-        return 4;
+    match mode {
+        0 => 4,
+        1 => 1,
+        _ => 2,
     }
-    if mode == 1 { 1 } else { 2 }
 }
 
 // MAPON or MAPOFF.
@@ -37,10 +47,11 @@ fn map_bit(map: u8) -> u8
 fn resolution_bit(mode: u8) -> u8
     ensures { (result ≡ resolution_bit mode) × (result ≤ 32) }
 {
-    if mode == 3 {
-        return 16;
+    match mode {
+        3 => 16,
+        4 => 32,
+        _ => 0,
     }
-    if mode == 4 { 32 } else { 0 }
 }
 
 // END, on the last record.
@@ -56,12 +67,10 @@ fn copy(bytes: &[u8], out: &mut [u8]) -> usize
     ensures count { result ≡ length bytes.now }
     ensures laid { out.new ≡ bytes.now ++ drop (length bytes.now) out.old }
 {
-    let mut i = 0;
-    while i < bytes.len() {
+    for i in 0..bytes.len() {
         out[i] = bytes[i];
-        i += 1;
     }
-    i
+    bytes.len()
 }
 
 // A kind 1 record: all seven data groups, in the manual's fetch order.
@@ -134,32 +143,30 @@ fn size_of(it: Item) -> usize
     }
 }
 
+// The item at a place, or why it is refused, with its number.
+fn read_at(plan: &[u8], at: usize, n: u32, total: u8) -> Result<ItemRead, ItemRefusal>
+    ensures { result ≡ numbered n (item_at plan.now at n total) }
+{
+    item::item_at(plan, at, n, total).map_err(|why| ItemRefusal { why, item: n })
+}
+
 // The first pass goes over the whole plan and writes nothing: how many bytes the list has, or the refusal.
-fn check(plan: &[u8]) -> Compiled
+fn check(plan: &[u8]) -> Result<usize, ItemRefusal>
     ensures { result ≡ checked_of (parse plan.now) }
 {
-    if plan.len() == 0 {
-        return Compiled::Refused(Refusal::NoBand, 0);
-    }
+    ask(0 < plan.len(), Refusal::NoBand)?;
     let mut at = 0;
     let mut n = 0;
     let mut total = 0;
     let mut bytes = 0;
     while at < plan.len() {
-        let r = item::item_at(plan, at, n, total);
-        match r {
-            Read::Bad(why) => {
-                return Compiled::Refused(why, n);
-            }
-            Read::Is(it, next) => {
-                bytes += size_of(it);
-                total += item::lines_of(it);
-                at = next;
-                n += 1;
-            }
-        }
+        let read = read_at(plan, at, n, total)?;
+        bytes += size_of(read.item);
+        total += item::lines_of(read.item);
+        at = read.next;
+        n += 1;
     }
-    Compiled::Done(bytes)
+    Ok(bytes)
 }
 
 // The second pass: the first found every item sound, so none is tested again, and none is refused.
@@ -171,33 +178,21 @@ fn write_all(plan: &[u8], out: &mut [u8])
     let mut at = 0;
     let mut to = 0;
     while at < plan.len() {
-        let r = item::known_at(plan, at);
-        match r {
-            Read::Bad(_) => {
-                return;
-            }
-            Read::Is(it, next) => {
-                to += write_record(&mut out[to..], it, next == plan.len());
-                at = next;
-            }
-        }
+        let Ok(read) = item::known_at(plan, at) else {
+            return;
+        };
+        to += write_record(&mut out[to..], read.item, read.next == plan.len());
+        at = read.next;
     }
 }
 
 // A plan's display list into the output; bytes past it stay. A refusal writes nothing.
-pub fn compile(plan: &[u8], out: &mut [u8]) -> Compiled
+pub fn compile(plan: &[u8], out: &mut [u8]) -> Result<usize, ItemRefusal>
     ensures answer { compile_told result ≡ compile_answer plan.now (length out.old) }
     ensures output { out.new ≡ compile_output plan.now out.old }
 {
-    let c = check(plan);
-    match c {
-        Compiled::Refused(why, item) => Compiled::Refused(why, item),
-        Compiled::Done(bytes) => {
-            if out.len() < bytes {
-                return Compiled::Refused(Refusal::Room, 0);
-            }
-            write_all(plan, out);
-            Compiled::Done(bytes)
-        }
-    }
+    let bytes = check(plan)?;
+    ask(bytes <= out.len(), Refusal::Room)?;
+    write_all(plan, out);
+    Ok(bytes)
 }

@@ -6,10 +6,12 @@ use Prim.Native.Nat.{ℕ}
 use native.Mathlib.Omega.{arith}
 use lib.ListN.{get_or}
 use Rattle.laws.proofs.Once.{OneAnswer}
-use Rattle.refusal.specs.Sheet.{number_of, Told, done, refused, told, unless}
+use Rattle.refusal.specs.Sheet.{number_of, Told, done, refused, told, asked, unless}
 use Rattle.refusal.specs.declared.Refusal.{Refusal}
 use Rattle.refusal.specs.declared.Refusal.TheVariants.{Board, Budget, Register, FrameOver, PlanCut, NoBand, Kind, Length, Field, First, Lines, Room, Address, State, Short}
 use Rattle.std.specs.Prelude.{Result, Ok, Err}
+use Rattle.refusal.proofs.ask.Kinds as ask_kinds
+use Rattle.refusal.proofs.ask.Reads as ask
 use Rattle.refusal.proofs.Refusal.number.Kinds as number_kinds
 use Rattle.refusal.proofs.Refusal.number.Reads as number
 
@@ -56,7 +58,19 @@ told_one (Err v) (Err w) e = ap Err (number_one v w (cc))
 number_once : OneAnswer 0 number_kinds.ps number_kinds.r number.Post
 number_once κs a x y s t p q = p ∙ sym q
 
+ask_once : OneAnswer 0 ask_kinds.ps ask_kinds.r ask.Post
+ask_once κs a x y s t p q = p ∙ sym q
+
 -- a chain that is done passed its first test
 pub passed : {X : Type 0} (t : Bool) (k : ℕ) (rest : Told X) (v : X) → unless t k rest ≡ done v → (t ≡ true) × (rest ≡ done v)
 passed true k rest v e = (refl, e)
 passed false k rest v e = refused_done e
+
+-- what a test of a refusal says, by its answer
+pub asked_ok : (t : Bool) (why : Refusal) {v : Unit {0}} → asked t why ≡ Ok v → t ≡ true
+asked_ok true why e = refl
+asked_ok false why e = cc
+
+pub asked_err : (t : Bool) (why v : Refusal) → asked t why ≡ Err v → (t ≡ false) × (v ≡ why)
+asked_err true why v e = cc
+asked_err false why v e = (refl, cc)
