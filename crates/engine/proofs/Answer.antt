@@ -9,7 +9,8 @@ use Rattle.refusal.specs.Sheet.{Told, done, refused}
 use Rattle.vram.specs.Memory.{good_length}
 use Rattle.blitter.specs.declared.Blitter.{Blitter}
 use Rattle.blitter.specs.State.{sound_blitter}
-use Rattle.engine.specs.Run.{Progress, Counts, progress, begun, run_for, counted, engine_answer, engine_blitter, engine_memory}
+use Rattle.engine.specs.declared.Counts.{Counts}
+use Rattle.engine.specs.Run.{Progress, progress, begun, run_for, counted, engine_answer, engine_blitter, engine_memory}
 
 module _ (b : Blitter) (mem : List ℕ) (budget : ℕ) where
   -- a run tells this, and leaves this blitter and this memory

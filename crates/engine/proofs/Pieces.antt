@@ -9,7 +9,8 @@ use lib.ListN.{length}
 use Rattle.refusal.specs.Sheet.{Told, done, refused}
 use Rattle.vram.specs.Memory.{good_length}
 use Rattle.blitter.specs.declared.Blitter.{Blitter}
-use Rattle.engine.specs.Run.{Progress, Counts, run_for, begun, counted, engine_answer, engine_blitter, engine_memory}
+use Rattle.engine.specs.declared.Counts.{Counts}
+use Rattle.engine.specs.Run.{Progress, run_for, begun, counted, engine_answer, engine_blitter, engine_memory}
 use Rattle.engine.specs.Machine.{Machine, machine, after}
 use Rattle.blitter.proofs.Sound.{Sound, sound_test}
 use Rattle.engine.proofs.Answer.{Gives, ran}

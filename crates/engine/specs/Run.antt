@@ -1,10 +1,9 @@
 -- Document 01, "The blitter": "A run takes a budget and does ticks until the budget is used or flags are 0. It reports ticks done and accesses made."
 use Rattle.std.specs.Prelude.{cond, List, ℕ, zero, suc, ◌+◌, eqb, leb, length}
-use Rattle.refusal.specs.Sheet.{number_of, Told, done, refused, unless, kept}
+use Rattle.refusal.specs.Sheet.{Told, done, unless, kept}
 use Rattle.vram.specs.Memory.{good_length}
 use Rattle.blitter.specs.declared.Blitter.{Blitter}
-use Rattle.engine.specs.declared.RunReport.{RunReport}
-use Rattle.engine.specs.declared.RunReport.TheVariants.{Ran, Refused}
+use Rattle.engine.specs.declared.Counts.{Counts}
 use Rattle.blitter.specs.State.{sound_blitter}
 use Rattle.engine.specs.Tick.{tick_blitter, tick_memory, tick_count}
 
@@ -41,15 +40,6 @@ abbrev pub begun : Blitter → List ℕ → Progress
 begun b mem = progress b mem 0 0
 
 -- what is reported: ticks and accesses
-pub record Counts : Type 0 where
-  pub ticks : ℕ
-  pub accesses : ℕ
-
--- the paper's number and values for each case
-abbrev pub run_told : RunReport → Told Counts
-run_told (Ran t a) = done (record { ticks = t; accesses = a })
-run_told (Refused why) = refused (number_of why) 0
-
 abbrev pub counted : Progress → Told Counts
 counted r = done (record { ticks = r.ticks; accesses = r.accesses })
 

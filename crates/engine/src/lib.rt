@@ -1,34 +1,28 @@
 #![tactic(auto)]
 
 ghost use Rattle.std.specs.Prelude.{◌≡◌, true, ◌+◌, ◌≤◌, ◌<◌, length};
+ghost use Rattle.refusal.specs.Sheet.{told};
 ghost use Rattle.vram.specs.Memory.{good_length};
 ghost use Rattle.blitter.specs.State.{sound_blitter};
 ghost use Rattle.engine.specs.Tick.{load_tick, ended};
-ghost use Rattle.engine.specs.Run.{run_for, progress, begun, run_told, engine_answer, engine_blitter, engine_memory};
+ghost use Rattle.engine.specs.Run.{run_for, progress, begun, engine_answer, engine_blitter, engine_memory};
 ghost use Rattle.engine.specs.Engine.{place_at, tall_of, source_step, dest_step, ahead_row, ahead_col, after_row, after_col, level_block, stretch_at, left_at, Placed, Reach, BurstFrom, BurstTo};
 
 use blitter::Blitter;
 use block::{Block, Note};
-use refusal::Refusal;
+use refusal::{After, Refusal, ask};
 use stretch::{Stretch, flat};
 
-// What a run reports: ticks done and accesses made, or why it is refused.
-#[derive(Clone, Copy)]
-pub enum RunReport {
-    Ran { ticks: u32, accesses: u32 },
-    Refused(Refusal),
+// What a run reports: ticks done and accesses made.
+#[derive(Clone, Copy, Debug, PartialEq, Eq, Default)]
+pub struct Counts {
+    pub ticks: u32,
+    pub accesses: u32,
 }
 
-impl RunReport {
+impl Counts {
     // The most ticks that one run may ask for.
     pub const BUDGET: u32 = 1000000;
-}
-
-// The blitter after a run, and what is reported.
-#[derive(Clone, Copy)]
-pub struct BlitterRan {
-    pub blitter: Blitter,
-    pub report: RunReport,
 }
 
 // A run so far, beside memory.
@@ -390,37 +384,33 @@ fn run_for(mut blitter: Blitter, mem: &mut [u8], budget: u32) -> Sofar
     }
 }
 
-// A run: refused 1, 15 and 2 in that order.
-pub fn run(blitter: Blitter, mem: &mut [u8], budget: u32) -> BlitterRan
-    ensures report { run_told result.report ≡ engine_answer blitter mem.old budget }
-    ensures blitter { result.blitter ≡ engine_blitter blitter mem.old budget }
+// A run: refused 1, 15 and 2 in that order, and then the blitter and memory are as they were.
+#[tactic(auto, unfolding(crate::specs::Run::engine_answer, crate::specs::Run::engine_blitter, crate::specs::Run::engine_memory))]
+fn ran(blitter: &mut Blitter, mem: &mut [u8], budget: u32) -> Result<Counts, Refusal>
+    ensures report { told result ≡ engine_answer blitter.old mem.old budget }
+    ensures blitter { blitter.new ≡ engine_blitter blitter.old mem.old budget }
+    ensures memory { mem.new ≡ engine_memory blitter.old mem.old budget }
+{
+    ask(vram::good_length(mem.len()), Refusal::Board)?;
+    ask(blitter.sound(), Refusal::State)?;
+    ask(budget <= Counts::BUDGET, Refusal::Budget)?;
+    let run = run_for(*blitter, mem, budget);
+    *blitter = run.blitter;
+    Ok(Counts {
+        ticks: run.ticks,
+        accesses: run.accesses,
+    })
+}
+
+// The blitter after a run, and what is reported.
+pub fn run(mut blitter: Blitter, mem: &mut [u8], budget: u32) -> After<Blitter, Counts>
+    ensures report { told result.report ≡ engine_answer blitter mem.old budget }
+    ensures blitter { result.state ≡ engine_blitter blitter mem.old budget }
     ensures memory { mem.new ≡ engine_memory blitter mem.old budget }
 {
-    if !vram::good_length(mem.len()) {
-        return BlitterRan {
-            blitter,
-            report: RunReport::Refused(Refusal::Board),
-        };
-    }
-    if !blitter.sound() {
-        return BlitterRan {
-            blitter,
-            report: RunReport::Refused(Refusal::State),
-        };
-    }
-    if RunReport::BUDGET < budget {
-        return BlitterRan {
-            blitter,
-            report: RunReport::Refused(Refusal::Budget),
-        };
-    }
-    let run = run_for(blitter, mem, budget);
-    let blitter = run.blitter;
-    BlitterRan {
-        blitter,
-        report: RunReport::Ran {
-            ticks: run.ticks,
-            accesses: run.accesses,
-        },
+    let report = ran(&mut blitter, mem, budget);
+    After {
+        state: blitter,
+        report,
     }
 }
