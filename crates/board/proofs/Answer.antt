@@ -10,8 +10,9 @@ use Rattle.refusal.specs.Sheet.{Told, done, refused, unless, kept}
 use Rattle.vram.specs.Memory.{good_length}
 use Rattle.blitter.specs.State.{stopped, interrupts}
 use Rattle.engine.specs.Tick.{tick_blitter, tick_memory, tick_count}
+use Rattle.engine.specs.declared.Counts.{Counts}
 use Rattle.engine.specs.Run as blit
-use Rattle.engine.specs.Run.{Counts, Progress, ticked, onward, run_for, begun, counted}
+use Rattle.engine.specs.Run.{Progress, ticked, onward, run_for, begun, counted}
 use Rattle.blitter.specs.declared.Blitter.{Blitter}
 use Rattle.board.specs.declared.Ports.{Ports}
 use Rattle.board.specs.declared.Board.{Board}
@@ -20,42 +21,11 @@ use Rattle.board.specs.Board.{changed, with_blitter, sound_board, register, blit
 
 -- Registers.
 module _ (b : Board) (offset v : ℕ) where
-  pub write_state : sound_board b ≡ false → (refused 15 0 ≡ write_answer b offset) × (b ≡ write_board b offset v)
-  unfolding write_answer write_board
-  write_state s = (simp s, simp s)
-
-  pub write_register : sound_board b ≡ true → register offset ≡ false → (refused 3 0 ≡ write_answer b offset) × (b ≡ write_board b offset v)
-  unfolding write_answer write_board
-  write_register s r = (simp (s, r), simp (s, r))
-
   pub write_done :
       sound_board b ≡ true → register offset ≡ true → (p : Ports) (t : Blitter) → p ≡ ports_written offset v b.ports → t ≡ blitter_written b.ports.bladr offset v b.blitter
       → (done tt ≡ write_answer b offset) × (changed p t b ≡ write_board b offset v)
   unfolding write_answer write_board
   write_done s r p t e f = (simp (s, r), simp (s, r) (λ i. changed (e i) (f i) b))
-
-  pub read_state : sound_board b ≡ false → refused 15 0 ≡ read_answer b offset
-  unfolding read_answer
-  read_state s = simp s
-
-  pub read_register : sound_board b ≡ true → register offset ≡ false → refused 3 0 ≡ read_answer b offset
-  unfolding read_answer
-  read_register s r = simp (s, r)
-
-  pub read_done : sound_board b ≡ true → register offset ≡ true → v ≡ read_byte b offset → done v ≡ read_answer b offset
-  unfolding read_answer
-  read_done s r e = simp (s, r, e)
-
-pub reset_state : (b : Board) → sound_board b ≡ false → (refused 15 0 ≡ reset_answer b) × (b ≡ reset_board b)
-unfolding reset_answer reset_board
-reset_state b s = (simp s, simp s)
-
-pub reset_done :
-    (b : Board) (t u : Blitter) → sound_board b ≡ true → t ≡ stopped b.blitter → u ≡ interrupts false t
-    → (done tt ≡ reset_answer b) × (changed (video_set 0 b.ports) u b ≡ reset_board b)
-unfolding reset_answer reset_board
-reset_done b t u s e f =
-    (simp s, simp s (ap (λ (x : Blitter). changed (video_set 0 b.ports) x b) (f ∙ ap (interrupts false) e)))
 
 -- A run.
 -- what is kept of a field is the field of what is kept
@@ -68,15 +38,7 @@ module _ (b : Board) (mem : List ℕ) (budget : ℕ) where
   abbrev pub Gives : Told Counts → Board → List ℕ → Type 0
   Gives told b' mem' = (told ≡ run_answer b mem budget) × ((b' ≡ run_board b mem budget) × (mem' ≡ run_memory b mem budget))
 
-  pub no_board : good_length (length mem) ≡ false → Gives (refused 1 0) b mem
-  unfolding run_answer run_board run_memory
-  no_board g = (simp g, (simp g, simp g))
-
   module _ (g : good_length (length mem) ≡ true) where
-    pub no_ports : sound_ports b.ports ≡ false → Gives (refused 15 0) b mem
-    unfolding run_answer run_board run_memory sound_board
-    no_ports s = (simp (g, s), (simp (g, s), simp (g, s)))
-
     -- past these the blitter's own answer is the board's
     module _ (s : sound_ports b.ports ≡ true) where
       same_answer : run_answer b mem budget ≡ blit.engine_answer b.blitter mem budget

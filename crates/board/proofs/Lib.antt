@@ -2,5 +2,4 @@
 pub mod Answer
 pub mod Sound
 pub mod Pieces
-mod Written
 mod Once

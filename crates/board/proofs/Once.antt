@@ -1,13 +1,7 @@
 -- Each contract of this crate's public calls admits one outcome only. Assumes nothing.
-use mathlib.Core.Path.{◌≡◌, sym, ap, ◌∙◌}
+use mathlib.Core.Path.{sym, ◌∙◌}
 use Rattle.laws.proofs.Once.{OneAnswer, OneExit}
-use Rattle.refusal.proofs.Sheet.{number_one, done_refused, refused_done, outcome_one}
-use Rattle.engine.proofs.Once.{run_one}
-use Rattle.board.specs.Board.{read_told}
-use Rattle.board.specs.declared.ReadReport.{ReadReport}
-use Rattle.board.specs.declared.ReadReport.TheVariants.{Byte, Refused}
-use Rattle.board.specs.declared.Changed.{Changed}
-use Rattle.board.specs.declared.Ran.{Ran}
+use Rattle.refusal.proofs.Sheet.{told_one, after_one}
 use Rattle.board.proofs.Board.new.Kinds as new_kinds
 use Rattle.board.proofs.Board.new.Reads as new
 use Rattle.board.proofs.Board.sound.Kinds as sound_kinds
@@ -23,19 +17,6 @@ use Rattle.board.proofs.Board.run.Reads as run
 use Rattle.board.proofs.Board.tick.Kinds as tick_kinds
 use Rattle.board.proofs.Board.tick.Reads as tick
 
--- what is told of a read means one report
-read_one : (x y : ReadReport) → read_told x ≡ read_told y → x ≡ y
-read_one (Byte v) (Byte w) e = cc
-read_one (Byte v) (Refused w) e = done_refused e
-read_one (Refused v) (Byte w) e = refused_done e
-read_one (Refused v) (Refused w) e = ap Refused (number_one v w (cc))
-
-changed_one : (x y : Changed) → x.board ≡ y.board → x.report ≡ y.report → x ≡ y
-changed_one x y p q = λ i. record { board = p i; report = q i }
-
-ran_one : (x y : Ran) → x.board ≡ y.board → x.report ≡ y.report → x ≡ y
-ran_one x y p q = λ i. record { board = p i; report = q i }
-
 new_once : OneAnswer 0 new_kinds.ps new_kinds.r new.Post
 new_once κs a x y s t p q = p ∙ sym q
 
@@ -43,22 +24,22 @@ sound_once : OneAnswer 0 sound_kinds.ps sound_kinds.r sound.Post
 sound_once κs a x y s t p q = p ∙ sym q
 
 write_once : OneAnswer 0 write_kinds.ps write_kinds.r write.Post
-write_once κs a x y s t p q = changed_one x y (p.1 ∙ sym q.1) (outcome_one x.report y.report (p.0 ∙ sym q.0))
+write_once κs a x y s t p q = after_one x y (p.1 ∙ sym q.1) (p.0 ∙ sym q.0)
 
 read_once : OneAnswer 0 read_kinds.ps read_kinds.r read.Post
-read_once κs a x y s t p q = read_one x y (p ∙ sym q)
+read_once κs a x y s t p q = told_one x y (p ∙ sym q)
 
 reset_once : OneAnswer 0 reset_kinds.ps reset_kinds.r reset.Post
-reset_once κs a x y s t p q = changed_one x y (p.1 ∙ sym q.1) (outcome_one x.report y.report (p.0 ∙ sym q.0))
+reset_once κs a x y s t p q = after_one x y (p.1 ∙ sym q.1) (p.0 ∙ sym q.0)
 
 run_once : OneAnswer 1 run_kinds.ps run_kinds.r run.Post
-run_once κs a x y s t p q = ran_one x y (p.1.0 ∙ sym q.1.0) (run_one x.report y.report (p.0 ∙ sym q.0))
+run_once κs a x y s t p q = after_one x y (p.1.0 ∙ sym q.1.0) (p.0 ∙ sym q.0)
 
 run_memory_once : OneExit 1 run_kinds.ps run_kinds.r run.Post (λ κs s. s.1.0.now)
 run_memory_once κs a x y s t p q = p.1.1 ∙ sym q.1.1
 
 tick_once : OneAnswer 1 tick_kinds.ps tick_kinds.r tick.Post
-tick_once κs a x y s t p q = ran_one x y (p.1.0 ∙ sym q.1.0) (run_one x.report y.report (p.0 ∙ sym q.0))
+tick_once κs a x y s t p q = after_one x y (p.1.0 ∙ sym q.1.0) (p.0 ∙ sym q.0)
 
 tick_memory_once : OneExit 1 tick_kinds.ps tick_kinds.r tick.Post (λ κs s. s.1.0.now)
 tick_memory_once κs a x y s t p q = p.1.1 ∙ sym q.1.1

@@ -1,15 +1,14 @@
 -- Document 01, "Registers" and "The blitter": what each call on a board answers, and the board and memory after it.
 use Rattle.std.specs.Prelude.{Bool, false, cond, ◌&&◌, List, ℕ, ◌%◌, eqb, leb, length}
-use Rattle.refusal.specs.Sheet.{number_of, Told, done, refused, unless, kept}
+use Rattle.refusal.specs.Sheet.{Told, done, unless, kept}
 use Rattle.vram.specs.Memory.{good_length}
 use Rattle.blitter.specs.State.{new_blitter, sound_blitter, started, stopped, interrupts}
 use Rattle.engine.specs.Tick.{tick_blitter, tick_memory, tick_count}
-use Rattle.engine.specs.Run.{Counts, run_for, begun, counted}
+use Rattle.engine.specs.declared.Counts.{Counts}
+use Rattle.engine.specs.Run.{run_for, begun, counted}
 use Rattle.blitter.specs.declared.Blitter.{Blitter}
 use Rattle.board.specs.declared.Ports.{Ports}
 use Rattle.board.specs.declared.Board.{Board}
-use Rattle.board.specs.declared.ReadReport.{ReadReport}
-use Rattle.board.specs.declared.ReadReport.TheVariants.{Byte, Refused}
 use Rattle.board.specs.Ports.{new_ports, sound_ports, video_set, among, ports_written}
 
 -- "A new board has every register, flag and state field 0"
@@ -56,11 +55,6 @@ read_byte b offset =
     (cond (eqb offset 0x54) (cond b.blitter.irqf 1 0)
     (cond (eqb offset 0x5E) 0
     (cond (eqb offset 0x5F) 0 255)))))))
-
--- the paper's number and value for each case
-abbrev pub read_told : ReadReport → Told ℕ
-read_told (Byte v) = done v
-read_told (Refused why) = refused (number_of why) 0
 
 -- reading a register: 15 state, 3 register
 unfoldable pub read_answer : Board → ℕ → Told ℕ

@@ -6,10 +6,10 @@ use Prim.Native.Nat.{ℕ, ◌≤◌, ◌<◌}
 use lib.Dec.{leb}
 use lib.ListN.{length}
 use borrow.Author.Tests.{le-leb, not-false}
+use Rattle.engine.specs.declared.Counts.{Counts}
 use Rattle.refusal.specs.Sheet.{Told, done, refused, unless, kept}
 use Rattle.refusal.proofs.Sheet.{done_refused, refused_done}
 use Rattle.vram.specs.Memory.{good_length}
-use Rattle.engine.specs.Run.{Counts}
 use Rattle.board.specs.declared.Board.{Board}
 use Rattle.board.specs.Board.{new_board, sound_board, write_answer, write_board, read_answer, reset_answer, reset_board, run_answer, run_board, run_memory}
 use Rattle.board.proofs.Answer.{tick_answer_lem, tick_board_lem, tick_memory_lem}

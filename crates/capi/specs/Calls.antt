@@ -1,8 +1,8 @@
 -- include/deskboard.h: what each call returns, and what it leaves in the words and in the memory that are lent to it.
+use Rattle.engine.specs.declared.Counts.{Counts}
 use Rattle.std.specs.Prelude.{List, [], ◌∷◌, ℕ, ◌+◌, ◌*◌, leb, length}
 use Rattle.refusal.specs.Sheet.{Told, done, refused, unless, kept}
 use Rattle.vram.specs.Memory.{good_length}
-use Rattle.engine.specs.Run.{Counts}
 use Rattle.board.specs.Board.{new_board, sound_board, write_answer, write_board, read_answer, reset_answer, reset_board, run_answer, run_board, run_memory, tick_answer, tick_board, tick_mem}
 use Rattle.board.specs.declared.Board.{Board}
 use Rattle.settings.specs.declared.Settings.{Settings}

@@ -12,7 +12,8 @@ use Rattle.refusal.proofs.Sheet.{passed}
 use Rattle.vram.specs.Memory.{good_length}
 use Rattle.blitter.specs.State.{started}
 use Rattle.blitter.proofs.Sound.{started_sound}
-use Rattle.engine.specs.Run.{Counts, run_for, begun, counted}
+use Rattle.engine.specs.declared.Counts.{Counts}
+use Rattle.engine.specs.Run.{run_for, begun, counted}
 use Rattle.board.specs.Board.{with_blitter, sound_board, blitter_written, write_board, run_answer, run_memory}
 use Rattle.board.specs.Ports.{ports_written}
 use Rattle.board.specs.declared.Board.{Board}

@@ -1,7 +1,7 @@
 -- A board with the memory that is lent to it, and what runs make of both, as the promise of `Board::run` says it.
+use Rattle.engine.specs.declared.Counts.{Counts}
 use Rattle.std.specs.Prelude.{Bool, true, ◌&&◌, List, [], ◌∷◌, ℕ, ◌+◌, leb}
 use Rattle.refusal.specs.Sheet.{Told, done, refused}
-use Rattle.engine.specs.Run.{Counts}
 use Rattle.board.specs.Board.{run_answer, run_board, run_memory}
 use Rattle.board.specs.declared.Board.{Board}
 

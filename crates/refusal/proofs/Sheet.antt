@@ -10,6 +10,7 @@ use Rattle.refusal.specs.Sheet.{number_of, Told, done, refused, told, asked, unl
 use Rattle.refusal.specs.declared.Refusal.{Refusal}
 use Rattle.refusal.specs.declared.Refusal.TheVariants.{Board, Budget, Register, FrameOver, PlanCut, NoBand, Kind, Length, Field, First, Lines, Room, Address, State, Short}
 use Rattle.std.specs.Prelude.{Result, Ok, Err}
+use Rattle.refusal.specs.declared.After.{After}
 use Rattle.refusal.proofs.ask.Kinds as ask_kinds
 use Rattle.refusal.proofs.ask.Reads as ask
 use Rattle.refusal.proofs.Refusal.number.Kinds as number_kinds
@@ -54,6 +55,10 @@ told_one (Ok v) (Ok w) e = cc
 told_one (Ok v) (Err w) e = done_refused e
 told_one (Err v) (Ok w) e = refused_done e
 told_one (Err v) (Err w) e = ap Err (number_one v w (cc))
+
+-- a state and what is told mean one outcome
+pub after_one : {S V : Type 0} (x y : After S V) → x.state ≡ y.state → told x.report ≡ told y.report → x ≡ y
+after_one x y p q = λ i. record { state = p i; report = told_one x.report y.report q i }
 
 number_once : OneAnswer 0 number_kinds.ps number_kinds.r number.Post
 number_once κs a x y s t p q = p ∙ sym q
