@@ -62,9 +62,6 @@ module _ (mem : List ℕ) (f : Frame) where
   pub line_board : good_length (length mem) ≡ false → (line_answer f mem ≡ refused 1 0) × (line_frame f mem ≡ f)
   line_board g = (simp g, simp g)
 
-  pub line_state : good_length (length mem) ≡ true → sound_frame f ≡ false → (line_answer f mem ≡ refused 15 0) × (line_frame f mem ≡ f)
-  line_state g s = (simp (g, s), simp (g, s))
-
   module _ (g : good_length (length mem) ≡ true) (s : sound_frame f ≡ true) where
     pub line_over : 240 ≤ f.line → (line_answer f mem ≡ refused 4 0) × (line_frame f mem ≡ f)
     line_over h = (simp (g, s, le-ltb _ _ h), simp (g, s, le-ltb _ _ h))
@@ -72,28 +69,3 @@ module _ (mem : List ℕ) (f : Frame) where
     -- a line that is given
     pub line_given : f.line < 240 → (line_answer f mem ≡ done (shown mem f)) × (line_frame f mem ≡ next_frame mem f)
     line_given h = (simp (g, s, lt-ltb _ _ h), simp (g, s, lt-ltb _ _ h))
-
-    pub line_on :
-        f.line < 240 → f.on ≡ true → (x y : Reader) → x ≡ fetched mem f.reader → y ≡ advanced_reader x
-        → (done x.settings ≡ line_answer f mem) × (frame_at (f.line + 1) y f ≡ line_frame f mem)
-    line_on h e x y p q =
-        let n = line_given h in (
-          ap (λ (z : Reader). done z.settings) p ∙ sym (n.0 ∙ ap done (shown_on e)),
-          ap (λ (z : Reader). frame_at (f.line + 1) z f) (q ∙ ap advanced_reader p) ∙ sym (n.1 ∙ next_on e),
-        )
-
-    pub line_off :
-        f.line < 240 → f.on ≡ false → (x : Settings) → x ≡ beginning
-        → (done x ≡ line_answer f mem) × (frame_at (f.line + 1) f.reader f ≡ line_frame f mem)
-    line_off h e x p = (ap done p ∙ sym ((line_given h).0 ∙ ap done (shown_off e)), sym ((line_given h).1 ∙ next_off e))
-
--- Frame start.
-pub start_state : (b : Board) → sound_board b ≡ false → refused 15 0 ≡ start_answer b
-unfolding start_answer
-start_state b s = simp s
-
-pub start_given :
-    (b : Board) (s : Settings) → sound_board b ≡ true → s ≡ beginning
-    → done (record { reader = with_settings s (start_of b.ports.xdladr 0).reader; line = 0; on = eqb (b.ports.video % 2) 1 }) ≡ start_answer b
-unfolding start_answer
-start_given b s e f = simp (e, f, div-one)

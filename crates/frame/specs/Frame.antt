@@ -6,15 +6,11 @@ use Rattle.board.specs.declared.Board.{Board}
 use Rattle.record.specs.Parts.{with_settings, repeating}
 use Rattle.record.specs.Record.{record_of}
 use Rattle.record.specs.declared.Reader.{Reader}
-use Rattle.refusal.specs.Sheet.{number_of, Told, done, refused, unless, kept}
+use Rattle.refusal.specs.Sheet.{Told, done, unless, kept}
 use Rattle.settings.specs.Settings.{no_record, beginning, sound_settings, advanced, off}
 use Rattle.settings.specs.declared.Settings.{Settings}
 use Rattle.vram.specs.Memory.{good_length}
 use Rattle.frame.specs.declared.Frame.{Frame}
-use Rattle.frame.specs.declared.LineReport.{LineReport}
-use Rattle.frame.specs.declared.FrameStart.{FrameStart}
-use Rattle.frame.specs.declared.FrameStart.TheVariants.{Started, Refused as Unstarted}
-use Rattle.frame.specs.declared.LineReport.TheVariants.{Line, Refused}
 
 -- "it takes XDL_ADR as the list position and bit 0 of VIDEO_CONTROL, with line and repeat 0 and the list not ended"
 abbrev pub start_of : ℕ → ℕ → Frame
@@ -24,11 +20,6 @@ start_of address control =
       line = 0;
       on = bit control 0;
     }
-
--- the paper's number for each case of a frame start
-abbrev pub start_told : FrameStart → Told Frame
-start_told (Started f) = done f
-start_told (Unstarted why) = refused (number_of why) 0
 
 -- frame start: 15 state
 unfoldable pub start_answer : Board → Told Frame
@@ -61,11 +52,6 @@ frame_at line r f = record { reader = r; line = line; on = f.on }
 unfoldable pub next_frame : List ℕ → Frame → Frame
 next_frame mem f =
     frame_at (f.line + 1) (cond f.on (advanced_reader (fetched mem f.reader)) f.reader) f
-
--- the paper's number for each case
-abbrev pub line_told : LineReport → Told Settings
-line_told (Line s) = done s
-line_told (Refused why) = refused (number_of why) 0
 
 -- 1 board, 15 state, 4 frame over
 abbrev pub line_answer : Frame → List ℕ → Told Settings

@@ -1,20 +1,19 @@
 #![tactic(auto)]
 
 ghost use Rattle.std.specs.Prelude.{◌≡◌};
+ghost use Rattle.refusal.specs.Sheet.{told};
 ghost use Rattle.frame.specs.Frame.{
   sound_frame,
   fetched,
   advanced_reader,
-  line_told,
   line_answer,
   line_frame,
-  start_told,
   start_answer,
 };
 
 use board::Board;
 use record::Reader;
-use refusal::Refusal;
+use refusal::{After, Refusal, ask};
 use settings::Settings;
 use vram::{Vram, good_length};
 
@@ -27,28 +26,8 @@ pub struct Frame {
     pub on: bool,
 }
 
-// What a line tells: its settings, or why it is refused.
-#[derive(Clone, Copy)]
-pub enum LineReport {
-    Line(Settings),
-    Refused(Refusal),
-}
-
-// The frame after a line, and what the line told.
-#[derive(Clone, Copy)]
-pub struct NextLine {
-    pub frame: Frame,
-    pub report: LineReport,
-}
-
-// What frame start gives: a frame, or why it is refused.
-#[derive(Clone, Copy)]
-pub enum FrameStart {
-    Started(Frame),
-    Refused(Refusal),
-}
-
 // The reader as its next line is shown.
+#[tactic(auto, unfolding(crate::specs::Frame::fetched))]
 fn fetch(mut reader: Reader, mem: &[u8]) -> Reader
     ensures { result ≡ fetched mem.now reader }
 {
@@ -57,8 +36,7 @@ fn fetch(mut reader: Reader, mem: &[u8]) -> Reader
         return reader;
     }
     if reader.ended {
-        let settings = reader.settings;
-        reader.settings = settings.dark();
+        reader.settings = reader.settings.dark();
         return reader;
     }
     reader.read(mem)
@@ -68,8 +46,7 @@ fn fetch(mut reader: Reader, mem: &[u8]) -> Reader
 fn advance(mut reader: Reader) -> Reader
     ensures { result ≡ advanced_reader reader }
 {
-    let settings = reader.settings;
-    reader.settings = settings.advance();
+    reader.settings = reader.settings.advance();
     reader
 }
 
@@ -78,73 +55,58 @@ impl Frame {
     pub const LINES: u16 = 240;
 
     // A frame made anew, from XDL_ADR and bit 0 of VIDEO_CONTROL: refused 15.
-    pub fn start(board: Board) -> FrameStart
-        ensures { start_told result ≡ start_answer board }
+    #[tactic(auto, unfolding(crate::specs::Frame::start_answer))]
+    pub fn start(board: Board) -> Result<Frame, Refusal>
+        ensures { told result ≡ start_answer board }
     {
-        if !board.sound() {
-            return FrameStart::Refused(Refusal::State);
-        }
-        let ports = board.ports;
-        let settings = Settings::new();
-        let reader = Reader {
-            settings,
-            position: ports.xdladr,
-            repeat: 0,
-            ended: false,
-        };
-        FrameStart::Started(Frame {
-            reader,
+        ask(board.sound(), Refusal::State)?;
+        Ok(Frame {
+            reader: Reader {
+                settings: Settings::new(),
+                position: board.ports.xdladr,
+                repeat: 0,
+                ended: false,
+            },
             line: 0,
-            on: ports.video % 2 == 1,
+            on: board.ports.video % 2 == 1,
         })
     }
 
     fn sound(self) -> bool
         ensures { result ≡ sound_frame self }
     {
-        let reader = self.reader;
-        let settings = reader.settings;
-        settings.sound() & (reader.position < Vram::ADDRESSES) & (self.line <= Frame::LINES)
+        self.reader.settings.sound()
+            & (self.reader.position < Vram::ADDRESSES)
+            & (self.line <= Frame::LINES)
+    }
+
+    // The settings of the next line; where it is refused the frame is as it was.
+    #[tactic(auto, unfolding(crate::specs::Frame::fetched, crate::specs::Frame::shown, crate::specs::Frame::next_frame))]
+    fn give(&mut self, mem: &[u8]) -> Result<Settings, Refusal>
+        ensures report { told result ≡ line_answer self.old mem.now }
+        ensures frame { self.new ≡ line_frame self.old mem.now }
+    {
+        ask(good_length(mem.len()), Refusal::Board)?;
+        ask(self.sound(), Refusal::State)?;
+        ask(self.line < Frame::LINES, Refusal::FrameOver)?;
+        self.line += 1;
+        if !self.on {
+            return Ok(Settings::new());
+        }
+        let reader = fetch(self.reader, mem);
+        self.reader = advance(reader);
+        Ok(reader.settings)
     }
 
     // The next line of the frame: its settings, or a refusal with the frame as it was handed in.
-    pub fn next_line(mut self, mem: &[u8]) -> NextLine
-        ensures report { line_told result.report ≡ line_answer self mem.now }
-        ensures frame { result.frame ≡ line_frame self mem.now }
+    pub fn next_line(mut self, mem: &[u8]) -> After<Frame, Settings>
+        ensures report { told result.report ≡ line_answer self mem.now }
+        ensures frame { result.state ≡ line_frame self mem.now }
     {
-        if !good_length(mem.len()) {
-            return NextLine {
-                frame: self,
-                report: LineReport::Refused(Refusal::Board),
-            };
-        }
-        if !self.sound() {
-            return NextLine {
-                frame: self,
-                report: LineReport::Refused(Refusal::State),
-            };
-        }
-        if Frame::LINES <= self.line {
-            return NextLine {
-                frame: self,
-                report: LineReport::Refused(Refusal::FrameOver),
-            };
-        }
-        let line = self.line + 1;
-        if self.on {
-            let reader = fetch(self.reader, mem);
-            let settings = reader.settings;
-            self.reader = advance(reader);
-            self.line = line;
-            return NextLine {
-                frame: self,
-                report: LineReport::Line(settings),
-            };
-        }
-        self.line = line;
-        NextLine {
-            frame: self,
-            report: LineReport::Line(Settings::new()),
+        let report = self.give(mem);
+        After {
+            state: self,
+            report,
         }
     }
 }
