@@ -25,34 +25,12 @@ pub record Outcome (b : Board) (s : Settings) (mem line : List ℕ) (told : Told
   pub output : after ≡ draw_output b s mem line
 
 module _ (b : Board) (s : Settings) (mem line : List ℕ) where
-  pub draw_board : good_length (length mem) ≡ false → Outcome b s mem line (refused 1 0) line
-  unfolding draw_answer
-  draw_board g = record { answer = simp g; output = simp g }
-
   module _ (g : good_length (length mem) ≡ true) where
-    -- an unsound board, and unsound settings
-    pub draw_state : sound_board b ≡ false → Outcome b s mem line (refused 15 0) line
-    unfolding draw_answer
-    draw_state h = record { answer = simp (g, h); output = simp (g, h) }
-
     module _ (h : sound_board b ≡ true) where
-      pub draw_unsound : sound_settings s ≡ false → Outcome b s mem line (refused 15 0) line
-      unfolding draw_answer
-      draw_unsound k = record { answer = simp (g, h, k); output = simp (g, h, k) }
-
       module _ (k : sound_settings s ≡ true) where
         pub draw_short : length line < line_count s → Outcome b s mem line (refused 17 0) line
         unfolding draw_answer
         draw_short q = let t = lt-leb (line_count s) (length line) q in record { answer = simp (g, h, k, t); output = simp (g, h, k, t) }
-
-        pub draw_done :
-            (n : ℕ) (after : List ℕ) → n ≡ line_count s → n ≤ length line → after ≡ filled (pixel_at mem b.ports.video s) n line
-            → Outcome b s mem line (done n) after
-        unfolding draw_answer
-        draw_done n after e q is =
-            let t = le-leb (line_count s) (length line) (omega arith) in
-            let same = is ∙ ap (λ (k : ℕ). filled (pixel_at mem b.ports.video s) k line) e in
-            record { answer = simp (g, h, k, t) (ap done e); output = simp (g, h, k, t) same }
 
 -- a drawing that is done has sound settings and their count
 pub record Done (s : Settings) (n : ℕ) : Type 0 where

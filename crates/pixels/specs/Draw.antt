@@ -1,19 +1,12 @@
 -- Document 02, A5: what drawing a line tells, and what the lent line holds then.
 use Rattle.std.specs.Prelude.{◌&&◌, List, ◌++◌, ℕ, leb, length, drop}
-use Rattle.refusal.specs.Sheet.{number_of, Told, done, refused, unless, kept}
+use Rattle.refusal.specs.Sheet.{Told, done, unless, kept}
 use Rattle.vram.specs.Memory.{good_length}
 use Rattle.board.specs.Board.{sound_board}
 use Rattle.board.specs.declared.Board.{Board}
 use Rattle.settings.specs.Settings.{sound_settings}
 use Rattle.settings.specs.declared.Settings.{Settings}
 use Rattle.pixels.specs.Pixels.{line_count, pixel_at, each}
-use Rattle.pixels.specs.declared.Drawn.{Drawn}
-use Rattle.pixels.specs.declared.Drawn.TheVariants.{Pixels, Refused}
-
--- the paper's number and values for each case
-abbrev pub draw_told : Drawn → Told ℕ
-draw_told (Pixels n) = done n
-draw_told (Refused why) = refused (number_of why) 0
 
 -- "17 when the lent line is shorter than the count, after 1 and 15; the line's settings are tested as a state"
 unfoldable pub draw_answer : Board → Settings → List ℕ → ℕ → Told ℕ

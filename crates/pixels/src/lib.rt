@@ -10,19 +10,13 @@ ghost use Rattle.vram.specs.Memory.{good_length};
 ghost use Rattle.pixels.specs.Pixels.{line_count, pixel_count, pixel_at};
 ghost use Rattle.pixels.specs.Reads.{data_bytes, read_bytes};
 ghost use Rattle.pixels.specs.Fills.{piece_of};
-ghost use Rattle.pixels.specs.Draw.{filled, draw_told, draw_answer, draw_output};
+ghost use Rattle.refusal.specs.Sheet.{told};
+ghost use Rattle.pixels.specs.Draw.{filled, draw_answer, draw_output};
 
 use board::Board;
-use refusal::Refusal;
+use refusal::{Refusal, ask};
 use settings::Settings;
 use vram::good_length;
-
-// What drawing tells: the number of pixels, or why it is refused.
-#[derive(Clone, Copy)]
-pub enum Drawn {
-    Pixels(u16),
-    Refused(Refusal),
-}
 
 // One of three by the width.
 fn by_width(width: u8, narrow: u16, normal: u16, wide: u16) -> u16
@@ -121,26 +115,15 @@ fn fill(mem: &[u8], video: u8, settings: Settings, line: &mut [u16], count: usiz
 }
 
 // Draws one line: fills the entries of a lent line from its first on, and tells how many. Those past them stay.
-pub fn draw(board: Board, settings: Settings, mem: &[u8], line: &mut [u16]) -> Drawn
-    ensures answer { draw_told result ≡ draw_answer board settings mem.now (length line.old) }
+#[tactic(auto, unfolding(crate::specs::Draw::draw_answer))]
+pub fn draw(board: Board, settings: Settings, mem: &[u8], line: &mut [u16]) -> Result<u16, Refusal>
+    ensures answer { told result ≡ draw_answer board settings mem.now (length line.old) }
     ensures line { line.new ≡ draw_output board settings mem.now line.old }
 {
-    if !good_length(mem.len()) {
-        return Drawn::Refused(Refusal::Board);
-    }
-    if !board.sound() {
-        return Drawn::Refused(Refusal::State);
-    }
-    if !settings.sound() {
-        return Drawn::Refused(Refusal::State);
-    }
-    let overlay = settings.overlay;
-    let look = settings.look;
-    let count = count_of(overlay.mode, look.width);
-    if line.len() < count as usize {
-        return Drawn::Refused(Refusal::Short);
-    }
-    let ports = board.ports;
-    fill(mem, ports.video, settings, line, count as usize);
-    Drawn::Pixels(count)
+    ask(good_length(mem.len()), Refusal::Board)?;
+    ask(board.sound() & settings.sound(), Refusal::State)?;
+    let count = count_of(settings.overlay.mode, settings.look.width);
+    ask(count as usize <= line.len(), Refusal::Short)?;
+    fill(mem, board.ports.video, settings, line, count as usize);
+    Ok(count)
 }

@@ -1,53 +1,16 @@
--- `pixels::draw` meets its contract, a case of the answer at each return. Assumes nothing.
+-- `pixels::draw` meets its contract: a line that is too short stays as it was. Assumes nothing.
 use mathlib.Core.Path.{sym, ◌∙◌}
+use borrow.Author.Tests.{leb-false}
 use native.Mathlib.Omega.{arith}
-use borrow.Author.Tests.{not-true, not-false}
-use Rattle.pixels.proofs.Answer.{draw_board, draw_state, draw_unsound, draw_short, draw_done}
+use Rattle.laws.proofs.Choice.{both}
+use Rattle.refusal.proofs.Sheet.{asked_ok, asked_err}
+use Rattle.pixels.proofs.Answer.{draw_short}
 use Rattle.pixels.proofs.draw.Goals as goal
 
-pub returns-then-not-good_length : goal.returns-then-not-good_length
-returns-then-not-good_length c =
+pub returns-in_err-ask-3-clause-line : goal.returns-in_err-ask-3-clause-line
+returns-in_err-ask-3-clause-line c =
     let a = c.args in
-    let o = draw_board a.board a.settings a.mem.now a.line.now (sym c.good_length.ensures ∙ not-true _ c.if-not-good_length.true-raw) in
-    record { answer = o.answer; line = o.output }
-
-pub returns-then-not-sound : goal.returns-then-not-sound
-returns-then-not-sound c =
-    let a = c.args in
-    let good = sym c.good_length.ensures ∙ not-false _ c.if-not-good_length.false-raw in
-    let o = draw_state a.board a.settings a.mem.now a.line.now good (sym c.sound.ensures ∙ not-true _ c.if-not-sound.true-raw) in
-    record { answer = o.answer; line = o.output }
-
-pub returns-then-not-sound-2 : goal.returns-then-not-sound-2
-returns-then-not-sound-2 c =
-    let a = c.args in
-    let good = sym c.good_length.ensures ∙ not-false _ c.if-not-good_length.false-raw in
-    let board = sym c.sound.ensures ∙ not-false _ c.if-not-sound.false-raw in
-    let o = draw_unsound a.board a.settings a.mem.now a.line.now good board (sym c.sound-2.ensures ∙ not-true _ c.if-not-sound-2.true-raw) in
-    record { answer = o.answer; line = o.output }
-
-pub returns-then-line-count : goal.returns-then-line-count
-returns-then-line-count c =
-    let a = c.args in
-    let good = sym c.good_length.ensures ∙ not-false _ c.if-not-good_length.false-raw in
-    let board = sym c.sound.ensures ∙ not-false _ c.if-not-sound.false-raw in
-    let sound = sym c.sound-2.ensures ∙ not-false _ c.if-not-sound-2.false-raw in
-    let o = draw_short a.board a.settings a.mem.now a.line.now good board sound (omega (arith, c.count_of-count.ensures, c.if-line-count.true)) in
-    record { answer = o.answer; line = o.output }
-
-pub fill-requires : goal.fill-requires
-fill-requires c =
-    let good = sym c.good_length.ensures ∙ not-false _ c.if-not-good_length.false-raw in
-    let sound = sym c.sound-2.ensures ∙ not-false _ c.if-not-sound-2.false-raw in
-    let count = c.count_of-count.ensures in
-    (sound, count, c.if-line-count.false, good)
-
-pub returns : goal.returns
-returns c =
-    let a = c.args in
-    let good = sym c.good_length.ensures ∙ not-false _ c.if-not-good_length.false-raw in
-    let board = sym c.sound.ensures ∙ not-false _ c.if-not-sound.false-raw in
-    let sound = sym c.sound-2.ensures ∙ not-false _ c.if-not-sound-2.false-raw in
-    let count = c.count_of-count.ensures in
-    let o = draw_done a.board a.settings a.mem.now a.line.now good board sound _ _ count c.if-line-count.false c.fill.ensures in
-    record { answer = o.answer; line = o.output }
+    let good = sym c.good_length.ensures ∙ asked_ok _ _ (sym c.ask.ensures ∙ c.in_ok-ask.was) in
+    let sound = both c.sound.result c.sound-2.result (asked_ok _ _ (sym c.ask-2.ensures ∙ c.in_ok-ask-2.was)) in
+    let short = leb-false _ _ (asked_err _ _ _ (sym c.ask-3.ensures ∙ c.in_err-ask-3.was)).0 in
+    (draw_short a.board a.settings a.mem.now a.line.now good (sym c.sound.ensures ∙ sound.0) (sym c.sound-2.ensures ∙ sound.1) (omega (arith, c.count_of-count.ensures, short))).output
