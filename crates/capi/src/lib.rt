@@ -2,18 +2,16 @@
 // A call tests in the order of the refusal sheet: memory (1), its states (15), then its own, and last the room of its report (13).
 #![tactic(auto)]
 
-ghost use Rattle.std.specs.Prelude.{◌≡◌, [], length, ◌+◌, ◌*◌, ◌≤◌};
-ghost use Rattle.refusal.specs.Sheet.{number_of, outcome_told, kept};
+ghost use Rattle.std.specs.Prelude.{◌≡◌, [], length, ◌≤◌, IfErr};
+ghost use Rattle.refusal.specs.Sheet.{done, told, unless};
 ghost use Rattle.vram.specs.Install.{install_answer, install_memory};
-ghost use Rattle.engine.specs.Run.{run_told};
 ghost use Rattle.pixels.specs.Draw.{draw_answer};
-ghost use Rattle.plan.specs.Compile.{compile_answer};
-ghost use Rattle.words.specs.Words.{laid};
-ghost use Rattle.boardwords.specs.Board.{board_of, board_words};
+ghost use Rattle.plan.specs.Compile.{compile_told};
+ghost use Rattle.boardwords.specs.Board.{board_size, board_of, board_fits};
+ghost use Rattle.framewords.specs.Frame.{settings_size, frame_size, settings_of, settings_fits, frame_of, frame_fits};
 ghost use Rattle.capi.specs.Calls.{
   number_told,
-  report_laid,
-  count_words,
+  whole,
   new_call,
   new_words,
   write_call,
@@ -45,46 +43,74 @@ ghost use Rattle.capi.specs.Calls.{
   compile_report,
 };
 
-use board::{Board, Changed, Ran, ReadReport};
-use boardwords::BOARD_WORDS;
-use engine::RunReport;
-use frame::{Frame, FrameStart, LineReport};
-use framewords::{FRAME_WORDS, SETTINGS_WORDS};
-use pixels::Drawn;
-use plan::Compiled;
-use refusal::{Outcome, Refusal};
+use board::Board;
+use boardwords::{BOARD_WORDS, board_fits, board_of, put_board};
+use engine::Counts;
+use frame::Frame;
+use framewords::{
+    FRAME_WORDS, SETTINGS_WORDS, frame_fits, frame_of, put_frame, put_settings, settings_fits,
+    settings_of,
+};
+use plan::ItemRefusal;
+use refusal::{Refusal, ask};
 use settings::Settings;
+use vram::good_length;
+use words::lay;
 
-// The words of a board after a write or a reset that was done, and the number of the call.
-fn settle(board: &mut [u32], changed: Changed) -> u32
-    ensures number { result ≡ number_told (outcome_told changed.report) }
-    ensures board { board.new ≡ kept (outcome_told changed.report) board.old (laid (board_words changed.board) board.old) }
+// What C knows an answer by: 0, or the number of its refusal.
+fn number<T: Copy>(answer: Result<T, Refusal>) -> u32
+    ensures { result ≡ number_told (told answer) }
 {
-    let report = changed.report;
-    match report {
-        Outcome::Done => {
-            boardwords::put_board(board, changed.board);
-            0
-        }
-        Outcome::Refused(why) => why.number() as u32,
+    match answer {
+        Ok(_) => 0,
+        Err(why) => why.number() as u32,
     }
 }
 
-// The same of a tick or a run, with its counts.
-fn settle_run(board: &mut [u32], report: &mut [u32], ran: Ran) -> u32
-    ensures number { result ≡ number_told (run_told ran.report) }
-    ensures board { board.new ≡ kept (run_told ran.report) board.old (laid (board_words ran.board) board.old) }
-    ensures report { report.new ≡ report_laid count_words (run_told ran.report) report.old }
+// The same of a plan, whose refusals have an item, which is at most 240: the low byte is the number.
+fn item_number(answer: Result<usize, ItemRefusal>) -> u32
+    requires { IfErr answer (λ r. r.item ≤ 240) }
+    ensures { result ≡ number_told (compile_told answer) }
 {
-    let told = ran.report;
-    match told {
-        RunReport::Ran { ticks, accesses } => {
-            boardwords::put_board(board, ran.board);
-            words::lay(report, &[ticks, accesses]);
-            0
-        }
-        RunReport::Refused(why) => why.number() as u32,
+    match answer {
+        Ok(_) => 0,
+        Err(refusal) => refusal.why.number() as u32 + 256 * refusal.item,
     }
+}
+
+// The states that words say: refused 15 where they are too few, or one is above its field.
+fn board_in(words: &[u32]) -> Result<Board, Refusal>
+    ensures { told result ≡ whole board_size words.now (unless (board_fits words.now) 15 (done (board_of words.now))) }
+{
+    ask(BOARD_WORDS <= words.len(), Refusal::State)?;
+    ask(board_fits(words), Refusal::State)?;
+    Ok(board_of(words))
+}
+
+fn frame_in(words: &[u32]) -> Result<Frame, Refusal>
+    ensures { told result ≡ whole frame_size words.now (unless (frame_fits words.now) 15 (done (frame_of words.now))) }
+{
+    ask(FRAME_WORDS <= words.len(), Refusal::State)?;
+    ask(frame_fits(words), Refusal::State)?;
+    Ok(frame_of(words))
+}
+
+fn settings_in(words: &[u32]) -> Result<Settings, Refusal>
+    ensures { told result ≡ whole settings_size words.now (unless (settings_fits words.now) 15 (done (settings_of words.now))) }
+{
+    ask(SETTINGS_WORDS <= words.len(), Refusal::State)?;
+    ask(settings_fits(words), Refusal::State)?;
+    Ok(settings_of(words))
+}
+
+#[tactic(auto, unfolding(crate::specs::Calls::new_call))]
+fn new(board: &mut [u32]) -> Result<(), Refusal>
+    ensures answer { told result ≡ new_call board.old }
+    ensures board { board.new ≡ new_words board.old }
+{
+    ask(BOARD_WORDS <= board.len(), Refusal::State)?;
+    put_board(board, Board::new());
+    Ok(())
 }
 
 #[unsafe(no_mangle)]
@@ -92,12 +118,18 @@ pub extern "C" fn deskboard_new(board: &mut [u32]) -> u32
     ensures number { result ≡ number_told (new_call board.old) }
     ensures board { board.new ≡ new_words board.old }
 {
-    if board.len() < BOARD_WORDS {
-        return 15;
-    }
-    let b = Board::new();
-    boardwords::put_board(board, b);
-    0
+    number(new(board))
+}
+
+#[tactic(auto, unfolding(crate::specs::Calls::write_call))]
+fn write(board: &mut [u32], offset: u32, value: u8) -> Result<(), Refusal>
+    ensures answer { told result ≡ write_call board.old offset }
+    ensures board { board.new ≡ write_words board.old offset value }
+{
+    let written = board_in(board)?.write(offset, value);
+    written.report?;
+    put_board(board, written.state);
+    Ok(())
 }
 
 #[unsafe(no_mangle)]
@@ -105,15 +137,19 @@ pub extern "C" fn deskboard_write(board: &mut [u32], offset: u32, value: u8) -> 
     ensures number { result ≡ number_told (write_call board.old offset) }
     ensures board { board.new ≡ write_words board.old offset value }
 {
-    if board.len() < BOARD_WORDS {
-        return 15;
-    }
-    if !boardwords::board_fits(board) {
-        return 15;
-    }
-    let b = boardwords::board_of(board);
-    let changed = b.write(offset, value);
-    settle(board, changed)
+    number(write(board, offset, value))
+}
+
+// Room is tested last: a refusal of the read itself comes before it.
+#[tactic(auto, unfolding(crate::specs::Calls::read_call))]
+fn read(board: &[u32], offset: u32, report: &mut [u32]) -> Result<u8, Refusal>
+    ensures answer { told result ≡ read_call board.now offset report.old }
+    ensures report { report.new ≡ read_report board.now offset report.old }
+{
+    let value = board_in(board)?.read(offset)?;
+    ask(1 <= report.len(), Refusal::Room)?;
+    lay(report, &[value as u32]);
+    Ok(value)
 }
 
 #[unsafe(no_mangle)]
@@ -121,25 +157,18 @@ pub extern "C" fn deskboard_read(board: &[u32], offset: u32, report: &mut [u32])
     ensures number { result ≡ number_told (read_call board.now offset report.old) }
     ensures report { report.new ≡ read_report board.now offset report.old }
 {
-    if board.len() < BOARD_WORDS {
-        return 15;
-    }
-    if !boardwords::board_fits(board) {
-        return 15;
-    }
-    let b = boardwords::board_of(board);
-    let told = b.read(offset);
-    match told {
-        ReadReport::Byte(value) => {
-            // Room is tested last: a refusal of the read itself comes before it.
-            if report.len() < 1 {
-                return 13;
-            }
-            words::lay(report, &[value as u32]);
-            0
-        }
-        ReadReport::Refused(why) => why.number() as u32,
-    }
+    number(read(board, offset, report))
+}
+
+#[tactic(auto, unfolding(crate::specs::Calls::reset_call))]
+fn reset(board: &mut [u32]) -> Result<(), Refusal>
+    ensures answer { told result ≡ reset_call board.old }
+    ensures board { board.new ≡ reset_words board.old }
+{
+    let cleared = board_in(board)?.reset();
+    cleared.report?;
+    put_board(board, cleared.state);
+    Ok(())
 }
 
 #[unsafe(no_mangle)]
@@ -147,29 +176,40 @@ pub extern "C" fn deskboard_reset(board: &mut [u32]) -> u32
     ensures number { result ≡ number_told (reset_call board.old) }
     ensures board { board.new ≡ reset_words board.old }
 {
-    if board.len() < BOARD_WORDS {
-        return 15;
-    }
-    if !boardwords::board_fits(board) {
-        return 15;
-    }
-    let b = boardwords::board_of(board);
-    let cleared = b.reset();
-    settle(board, cleared)
+    number(reset(board))
 }
 
 // A run whose counts have no room is refused before it begins, since a refused call changes no memory: by its other refusals, then 13.
-fn run_unreported(board: &[u32], budget: u32) -> u32
-    ensures { result ≡ number_told (run_unreported (board_of board.now) budget) }
+fn run_unreported(board: Board, budget: u32) -> Result<Counts, Refusal>
+    ensures { told result ≡ run_unreported board budget }
 {
-    let b = boardwords::board_of(board);
-    if !b.sound() {
-        return 15;
+    ask(board.sound(), Refusal::State)?;
+    ask(budget <= Board::BUDGET, Refusal::Budget)?;
+    Err(Refusal::Room)
+}
+
+#[tactic(auto, unfolding(crate::specs::Calls::run_call))]
+fn run(
+    board: &mut [u32],
+    mem: &mut [u8],
+    budget: u32,
+    report: &mut [u32],
+) -> Result<Counts, Refusal>
+    ensures answer { told result ≡ run_call board.old mem.old budget report.old }
+    ensures board { board.new ≡ run_words board.old mem.old budget report.old }
+    ensures memory { mem.new ≡ run_bytes board.old mem.old budget report.old }
+    ensures report { report.new ≡ run_report board.old mem.old budget report.old }
+{
+    ask(good_length(mem.len()), Refusal::Board)?;
+    let before = board_in(board)?;
+    if report.len() < 2 {
+        return run_unreported(before, budget);
     }
-    if Board::BUDGET < budget {
-        return 2;
-    }
-    13
+    let ran = before.run(mem, budget);
+    let counts = ran.report?;
+    put_board(board, ran.state);
+    lay(report, &[counts.ticks, counts.accesses]);
+    Ok(counts)
 }
 
 #[unsafe(no_mangle)]
@@ -184,21 +224,7 @@ pub extern "C" fn deskboard_run(
     ensures memory { mem.new ≡ run_bytes board.old mem.old budget report.old }
     ensures report { report.new ≡ run_report board.old mem.old budget report.old }
 {
-    if !vram::good_length(mem.len()) {
-        return 1;
-    }
-    if board.len() < BOARD_WORDS {
-        return 15;
-    }
-    if !boardwords::board_fits(board) {
-        return 15;
-    }
-    if report.len() < 2 {
-        return run_unreported(board, budget);
-    }
-    let b = boardwords::board_of(board);
-    let ran = b.run(mem, budget);
-    settle_run(board, report, ran)
+    number(run(board, mem, budget, report))
 }
 
 // One tick is the run with a budget of 1.
@@ -212,29 +238,39 @@ pub extern "C" fn deskboard_tick(board: &mut [u32], mem: &mut [u8], report: &mut
     deskboard_run(board, mem, 1, report)
 }
 
+#[tactic(auto, unfolding(crate::specs::Calls::start_call))]
+fn start(board: &[u32], frame: &mut [u32]) -> Result<Frame, Refusal>
+    ensures answer { told result ≡ start_call board.now frame.old }
+    ensures frame { frame.new ≡ start_words board.now frame.old }
+{
+    ask(FRAME_WORDS <= frame.len(), Refusal::State)?;
+    let started = Frame::start(board_in(board)?)?;
+    put_frame(frame, started);
+    Ok(started)
+}
+
 #[unsafe(no_mangle)]
 pub extern "C" fn deskboard_start(board: &[u32], frame: &mut [u32]) -> u32
     ensures number { result ≡ number_told (start_call board.now frame.old) }
     ensures frame { frame.new ≡ start_words board.now frame.old }
 {
-    if board.len() < BOARD_WORDS {
-        return 15;
-    }
-    if frame.len() < FRAME_WORDS {
-        return 15;
-    }
-    if !boardwords::board_fits(board) {
-        return 15;
-    }
-    let b = boardwords::board_of(board);
-    let told = Frame::start(b);
-    match told {
-        FrameStart::Started(f) => {
-            framewords::put_frame(frame, f);
-            0
-        }
-        FrameStart::Refused(why) => why.number() as u32,
-    }
+    number(start(board, frame))
+}
+
+// Room is tested before either buffer is written, since a refused call changes nothing.
+#[tactic(auto, unfolding(crate::specs::Calls::line_call))]
+fn next_line(frame: &mut [u32], mem: &[u8], settings: &mut [u32]) -> Result<Settings, Refusal>
+    ensures answer { told result ≡ line_call frame.old mem.now settings.old }
+    ensures frame { frame.new ≡ line_words frame.old mem.now settings.old }
+    ensures settings { settings.new ≡ line_settings frame.old mem.now settings.old }
+{
+    ask(good_length(mem.len()), Refusal::Board)?;
+    let next = frame_in(frame)?.next_line(mem);
+    let line = next.report?;
+    ask(SETTINGS_WORDS <= settings.len(), Refusal::Room)?;
+    put_frame(frame, next.state);
+    put_settings(settings, line);
+    Ok(line)
 }
 
 #[unsafe(no_mangle)]
@@ -243,43 +279,46 @@ pub extern "C" fn deskboard_next_line(frame: &mut [u32], mem: &[u8], settings: &
     ensures frame { frame.new ≡ line_words frame.old mem.now settings.old }
     ensures settings { settings.new ≡ line_settings frame.old mem.now settings.old }
 {
-    if !vram::good_length(mem.len()) {
-        return 1;
-    }
-    if frame.len() < FRAME_WORDS {
-        return 15;
-    }
-    if !framewords::frame_fits(frame) {
-        return 15;
-    }
-    let f = framewords::frame_of(frame);
-    let next = f.next_line(mem);
-    let told = next.report;
-    match told {
-        LineReport::Line(s) => {
-            // Before either buffer is written, since a refused call changes nothing.
-            if settings.len() < SETTINGS_WORDS {
-                return 13;
-            }
-            framewords::put_frame(frame, next.frame);
-            framewords::put_settings(settings, s);
-            0
-        }
-        LineReport::Refused(why) => why.number() as u32,
-    }
+    number(next_line(frame, mem, settings))
 }
 
 // A line whose count has no room is drawn into one of our own, which has room for every line: refusals 1 and 15 come as always, 17 by
 // its count and the room, and a line that has none of these is refused 13.
-fn draw_unreported(board: Board, settings: Settings, mem: &[u8], room: usize) -> u32
-    ensures { result ≡ number_told (reportable 1 [] (draw_answer board settings mem.now room)) }
+fn draw_unreported(
+    board: Board,
+    settings: Settings,
+    mem: &[u8],
+    room: usize,
+) -> Result<u16, Refusal>
+    ensures { told result ≡ reportable 1 [] (draw_answer board settings mem.now room) }
 {
-    let mut line = [0u16; 672];
-    let told = pixels::draw(board, settings, mem, &mut line);
-    match told {
-        Drawn::Pixels(count) => { if room < count as usize { 17 } else { 13 } }
-        Drawn::Refused(why) => why.number() as u32,
+    let mut line = [0; 672];
+    let count = pixels::draw(board, settings, mem, &mut line)?;
+    ask(count as usize <= room, Refusal::Short)?;
+    Err(Refusal::Room)
+}
+
+#[tactic(auto, unfolding(crate::specs::Calls::draw_call))]
+fn draw(
+    board: &[u32],
+    settings: &[u32],
+    mem: &[u8],
+    line: &mut [u16],
+    report: &mut [u32],
+) -> Result<u16, Refusal>
+    ensures answer { told result ≡ draw_call board.now settings.now mem.now (length line.old) report.old }
+    ensures line { line.new ≡ draw_line board.now settings.now mem.now line.old report.old }
+    ensures report { report.new ≡ draw_report board.now settings.now mem.now (length line.old) report.old }
+{
+    ask(good_length(mem.len()), Refusal::Board)?;
+    let board = board_in(board)?;
+    let settings = settings_in(settings)?;
+    if report.len() < 1 {
+        return draw_unreported(board, settings, mem, line.len());
     }
+    let count = pixels::draw(board, settings, mem, line)?;
+    lay(report, &[count as u32]);
+    Ok(count)
 }
 
 #[unsafe(no_mangle)]
@@ -294,55 +333,23 @@ pub extern "C" fn deskboard_draw(
     ensures line { line.new ≡ draw_line board.now settings.now mem.now line.old report.old }
     ensures report { report.new ≡ draw_report board.now settings.now mem.now (length line.old) report.old }
 {
-    if !vram::good_length(mem.len()) {
-        return 1;
-    }
-    if board.len() < BOARD_WORDS {
-        return 15;
-    }
-    if !boardwords::board_fits(board) {
-        return 15;
-    }
-    if settings.len() < SETTINGS_WORDS {
-        return 15;
-    }
-    if !framewords::settings_fits(settings) {
-        return 15;
-    }
-    let b = boardwords::board_of(board);
-    let s = framewords::settings_of(settings);
+    number(draw(board, settings, mem, line, report))
+}
+
+// A plan whose count has no room is compiled into no room at all: its other refusals come as always, and a plan that has none is refused 13,
+// since no list is empty.
+#[tactic(auto, unfolding(crate::specs::Calls::compile_call))]
+fn compile(plan: &[u8], out: &mut [u8], report: &mut [u32]) -> Result<usize, ItemRefusal>
+    ensures answer { compile_told result ≡ compile_call plan.now (length out.old) report.old }
+    ensures output { out.new ≡ compile_bytes plan.now out.old report.old }
+    ensures report { report.new ≡ compile_report plan.now (length out.old) report.old }
+{
     if report.len() < 1 {
-        return draw_unreported(b, s, mem, line.len());
+        return plan::compile(plan, &mut []);
     }
-    let told = pixels::draw(b, s, mem, line);
-    match told {
-        Drawn::Pixels(count) => {
-            words::lay(report, &[count as u32]);
-            0
-        }
-        Drawn::Refused(why) => why.number() as u32,
-    }
-}
-
-// A plan's refusal with its item, which is at most 240: the low byte of the answer is the number.
-fn with_item(why: Refusal, item: u32) -> u32
-    requires { item ≤ 240 }
-    ensures { result ≡ number_of why + 256 * item }
-{
-    why.number() as u32 + 256 * item
-}
-
-// A plan whose count has no room is compiled into no room at all: its other refusals come as always, and a plan that has none is refused 13.
-// No list is empty, so none is done.
-fn compile_unreported(plan: &[u8]) -> u32
-    ensures { result ≡ number_told (compile_answer plan.now 0) }
-{
-    let mut none: [u8; 0] = [];
-    let told = plan::compile(plan, &mut none);
-    match told {
-        Compiled::Done(_) => 13,
-        Compiled::Refused(why, item) => with_item(why, item),
-    }
+    let bytes = plan::compile(plan, out)?;
+    lay(report, &[bytes as u32]);
+    Ok(bytes)
 }
 
 #[unsafe(no_mangle)]
@@ -351,18 +358,7 @@ pub extern "C" fn deskboard_compile(plan: &[u8], out: &mut [u8], report: &mut [u
     ensures output { out.new ≡ compile_bytes plan.now out.old report.old }
     ensures report { report.new ≡ compile_report plan.now (length out.old) report.old }
 {
-    if report.len() < 1 {
-        return compile_unreported(plan);
-    }
-    let told = plan::compile(plan, out);
-    match told {
-        Compiled::Done(bytes) => {
-            let count = bytes as u32;
-            words::lay(report, &[count]);
-            0
-        }
-        Compiled::Refused(why, item) => with_item(why, item),
-    }
+    item_number(compile(plan, out, report))
 }
 
 #[unsafe(no_mangle)]
@@ -370,9 +366,5 @@ pub extern "C" fn deskboard_install(mem: &mut [u8], list: &[u8], address: u32) -
     ensures number { result ≡ number_told (install_answer mem.old list.now address) }
     ensures memory { mem.new ≡ install_memory mem.old list.now address }
 {
-    let told = vram::install(mem, list, address);
-    match told {
-        Outcome::Done => 0,
-        Outcome::Refused(why) => why.number() as u32,
-    }
+    number(vram::install(mem, list, address))
 }

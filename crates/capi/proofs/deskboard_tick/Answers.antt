@@ -2,12 +2,6 @@
 use Rattle.capi.proofs.Passed.{tick_done}
 use Rattle.capi.proofs.deskboard_tick.Goals as goal
 
-pub deskboard_run-requires : goal.deskboard_run-requires
-deskboard_run-requires c = tt
-
-pub shape_of-board : goal.shape_of-board
-shape_of-board c = c.board-1.given
-
 pub returns : goal.returns
 returns c =
     let ran = c.deskboard_run.ensures in

@@ -1,21 +1,22 @@
--- `capi::draw_unreported` meets its contract: a line of 672 entries decides for all. Assumes nothing.
-use mathlib.Core.Path.{refl, sym, ap, ◌∙◌}
-use Rattle.pixels.specs.Draw.{draw_told}
-use Rattle.capi.proofs.Told.{alone, no_number}
+-- `capi::draw_unreported` meets its contract: what is told of a line of 672 entries decides. Assumes nothing.
+use mathlib.Core.Path.{sym, ap, ◌∙◌}
+use borrow.Author.Tests.{leb-true, leb-false}
+use Rattle.refusal.specs.Sheet.{number_of, refused, told}
+use Rattle.refusal.specs.declared.Refusal.{Refusal}
+use Rattle.refusal.proofs.Sheet.{asked_ok, asked_err}
+use Rattle.capi.proofs.Told.{told_on}
 use Rattle.capi.proofs.Drawn.{too_short, long_enough, refused_too}
 use Rattle.capi.proofs.draw_unreported.Goals as goal
 
-pub returns-then-room-count : goal.returns-then-room-count
-returns-then-room-count c =
-    let a = c.args in
-    no_number _ _ _ (too_short a.board a.settings a.mem.now a.room _ (sym (ap draw_told c.in-Pixels.is) ∙ c.draw-told.ensures.answer) c.if-room-count.true) _ refl
+pub returns-in_err-count : goal.returns-in_err-count
+returns-in_err-count c = told_on _ _ c.from_residual.ensures.1 ∙ sym (refused_too _ _ _ _ _ _ (sym (ap told c.in_err-count.was) ∙ c.draw.ensures.answer))
 
-pub returns-else-room-count : goal.returns-else-room-count
-returns-else-room-count c =
-    let a = c.args in
-    no_number _ _ _ (long_enough a.board a.settings a.mem.now a.room _ (sym (ap draw_told c.in-Pixels.is) ∙ c.draw-told.ensures.answer) c.if-room-count.false) _ refl
+pub returns-in_err-ask : goal.returns-in_err-ask
+returns-in_err-ask c =
+    let a = asked_err _ _ _ (sym c.ask.ensures ∙ c.in_err-ask.was) in
+    told_on _ _ c.from_residual-in_err-ask.ensures.1
+    ∙ (ap (λ (w : Refusal). refused (number_of w) 0) a.1 ∙ sym (too_short _ _ _ _ _ (sym (ap told c.in_ok-count.was) ∙ c.draw.ensures.answer) (leb-false _ _ a.0)))
 
-pub returns-in-Refused : goal.returns-in-Refused
-returns-in-Refused c =
-    let a = c.args in
-    no_number _ _ _ (refused_too a.board a.settings a.mem.now a.room _ _ (sym (ap draw_told c.in-Refused.is) ∙ c.draw-told.ensures.answer)) _ (c.number.ensures ∙ alone _)
+pub returns : goal.returns
+returns c =
+    sym (long_enough _ _ _ _ _ (sym (ap told c.in_ok-count.was) ∙ c.draw.ensures.answer) (leb-true _ _ (asked_ok _ _ (sym c.ask.ensures ∙ c.in_ok-ask.was))))
