@@ -1,5 +1,6 @@
 -- What the data of a record leave as it is: the origin, which is where the record begins, and both counters, which are reset once all data are read.
 -- Assumes nothing.
+use Rattle.std.proofs.Common.{rules}
 use mathlib.Core.Path.{◌≡◌, refl, ap, ◌∙◌}
 use mathlib.Core.List.{List}
 use Prim.Native.Nat.{ℕ}
@@ -29,37 +30,34 @@ module _ (mem : List ℕ) (v : ℕ) (r : Reader) where
 
   repeat_keeps : Keeps (repeat_group mem v r)
   unfolding repeat_group
-  repeat_keeps = by_cond Keeps (bit v 5) _ _ (λ e. refl) (λ e. refl)
+  repeat_keeps = search rules
 
   address_keeps : Keeps (address_group mem v r)
   unfolding address_group
-  address_keeps = by_cond Keeps (bit v 6) _ _ (λ e. refl) (λ e. refl)
+  address_keeps = search rules
 
   scroll_keeps : Keeps (scroll_group mem v r)
   unfolding scroll_group
-  scroll_keeps = by_cond Keeps (bit v 7) _ _ (λ e. refl) (λ e. refl)
+  scroll_keeps = search rules
 
   font_keeps : Keeps (font_group mem v r)
   unfolding font_group
-  font_keeps = by_cond Keeps (bit v 0) _ _ (λ e. refl) (λ e. refl)
+  font_keeps = search rules
 
   map_keeps : Keeps (map_group mem v r)
   unfolding map_group
-  map_keeps = by_cond Keeps (bit v 1) _ _ (λ e. refl) (λ e. refl)
+  map_keeps = search rules
 
   field_keeps : Keeps (field_group mem v r)
   unfolding field_group
-  field_keeps = by_cond Keeps (bit v 2) _ _ (λ e. refl) (λ e. refl)
+  field_keeps = search rules
 
   look_keeps : Keeps (look_group mem v r)
   unfolding look_group
-  look_keeps = by_cond Keeps (bit v 3) _ _ (λ e. refl) (λ e. refl)
+  look_keeps = search rules
 
 fetched_keeps : (mem : List ℕ) (c d : ℕ) (r : Reader) → kept_in (fetched_by mem c d r) ≡ kept_in r
-fetched_keeps mem c d r =
-    look_keeps mem d _
-    ∙ (field_keeps mem d _
-    ∙ (map_keeps mem d _ ∙ (font_keeps mem d _ ∙ (scroll_keeps mem c _ ∙ (address_keeps mem c _ ∙ repeat_keeps mem c r)))))
+fetched_keeps mem c d r = search (rules, repeat_keeps, address_keeps, scroll_keeps, font_keeps, map_keeps, field_keeps, look_keeps)
 
 -- a record by its control bytes
 module _ (mem : List ℕ) (r : Reader) where
