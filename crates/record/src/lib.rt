@@ -288,10 +288,11 @@ impl Reader {
         ensures { result ≡ field_group mem.now control.d self }
     {
         if control.mappar() {
-            self.settings.map.hscroll = byte_at(mem, self.position, 0) % 32;
-            self.settings.map.vscroll = byte_at(mem, self.position, 1) % 32;
-            self.settings.map.width = field_width(byte_at(mem, self.position, 2));
-            self.settings.map.height = byte_at(mem, self.position, 3) % 32 + 1;
+            let map = &mut self.settings.map;
+            map.hscroll = byte_at(mem, self.position, 0) % 32;
+            map.vscroll = byte_at(mem, self.position, 1) % 32;
+            map.width = field_width(byte_at(mem, self.position, 2));
+            map.height = byte_at(mem, self.position, 3) % 32 + 1;
             self.position = further(self.position, 4);
         }
         self
@@ -318,8 +319,8 @@ impl Reader {
             self.settings.overlay.counter = self.settings.overlay.vscroll;
         }
         if control.restarts_field() {
-            let map = self.settings.map;
-            self.settings.map.counter = field_start(map.vscroll, map.height);
+            let map = &mut self.settings.map;
+            map.counter = field_start(map.vscroll, map.height);
         }
         self
     }
