@@ -4,7 +4,6 @@ use mathlib.Core.Path.{◌≡◌, refl, ◌∙◌}
 use mathlib.Core.Bool.{Bool, true, false, or-true}
 use mathlib.Core.List.{List}
 use Prim.Native.Nat.{ℕ, ◌+◌, ◌/◌, ◌%◌}
-use native.Mathlib.Nat.{mod-add-mod, mod-mod, add_assoc, add-zero}
 use Rattle.laws.specs.Bit.{bit}
 use Rattle.settings.specs.Parts.{overlay_at, in_mode, stepping, scrolled, in_font, map_at, switched, map_stepping, fielded, with_overlay, with_map, with_look, with_origin}
 use Rattle.settings.specs.declared.Settings.{Settings}

@@ -1,26 +1,19 @@
 -- A record of bytes keeps settings sound and the position in 19 bits. Between a smaller MAPPAR and the restart behind it the field counter may stand
 -- above the height, so while a record is read the map is sound but for its counter. Assumes nothing.
 use Rattle.std.proofs.Common.{rules}
-use mathlib.Core.Path.{◌≡◌, sym, ◌∙◌}
-use mathlib.Core.Bool.{Bool, true, false, cond, ◌||◌}
+use mathlib.Core.Path.{◌≡◌}
+use mathlib.Core.Bool.{false}
 use mathlib.Core.List.{List}
-use Prim.Native.Nat.{ℕ, ◌+◌, ◌/◌, ◌%◌, ◌≤◌, ◌<◌}
+use Prim.Native.Nat.{ℕ, ◌+◌, ◌≤◌, ◌<◌}
 use native.Mathlib.Nat.{mod-lt}
 use native.Mathlib.Omega.{arith}
-use lib.Dec.{eqb, ltb}
 use lib.ListN.{length}
-use borrow.Author.Tests.{eqb-false, ltb-false}
-use Rattle.laws.proofs.Choice.{by_cond, true_false}
 use Rattle.laws.specs.Bit.{bit}
 use Rattle.settings.proofs.Sound.{OverlayFits, MapFits, LookFits, SettingsFit}
-use Rattle.settings.specs.Parts.{in_mode, map_at, switched, map_stepping, fielded, with_overlay, with_map, with_look, with_origin}
+use Rattle.settings.specs.Parts.{map_at}
 use Rattle.settings.specs.declared.Settings.{Settings}
-use Rattle.settings.specs.declared.Overlay.{Overlay}
-use Rattle.settings.specs.declared.Map.{Map}
-use Rattle.settings.specs.declared.Look.{Look}
 use Rattle.vram.specs.Memory.{Bytes, byte_at, place}
-use Rattle.record.specs.Parts.{read_on}
-use Rattle.record.specs.Record.{pixel_mode, overlay_mode, map_switch, address_at, step_at, field_width, display_width, look_at, field_restarts, text_restarts, controlled, repeat_group, address_group, scroll_group, font_group, map_group, field_group, look_group, restarted, fetched_by, record_of}
+use Rattle.record.specs.Record.{overlay_mode, address_at, step_at, field_width, display_width, controlled, repeat_group, address_group, scroll_group, font_group, map_group, field_group, look_group, restarted, fetched_by, record_of}
 use Rattle.record.specs.declared.Reader.{Reader}
 
 -- the numbers that a record's bytes give
