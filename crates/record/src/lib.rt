@@ -191,8 +191,9 @@ fn field_start(vscroll: u8, height: u8) -> u8
 }
 
 impl Reader {
+    // What the control bytes say by themselves: the mode, the map, the end.
     #[tactic(auto, unfolding(crate::specs::Record::controlled))]
-    fn control(mut self, control: Control) -> Self
+    fn switch(mut self, control: Control) -> Self
         ensures { result ≡ controlled control.c control.d self }
     {
         self.settings.overlay.mode = control.mode(self.settings.overlay.mode);
@@ -205,7 +206,7 @@ impl Reader {
     }
 
     // The address and the step of OVADR and MAPADR: five bytes.
-    fn data(&mut self, mem: &[u8]) -> (u32, u16)
+    fn address_step(&mut self, mem: &[u8]) -> (u32, u16)
         ensures address { result.0 ≡ address_at mem.now self.old.position 0 }
         ensures step { result.1 ≡ step_at mem.now self.old.position 3 }
         ensures reader { self.new ≡ read_on 5 self.old.settings self.old }
@@ -241,7 +242,7 @@ impl Reader {
         ensures { result ≡ address_group mem.now control.c self }
     {
         if control.ovadr() {
-            (self.settings.overlay.address, self.settings.overlay.step) = self.data(mem);
+            (self.settings.overlay.address, self.settings.overlay.step) = self.address_step(mem);
         }
         self
     }
@@ -277,7 +278,7 @@ impl Reader {
         ensures { result ≡ map_group mem.now control.d self }
     {
         if control.mapadr() {
-            (self.settings.map.address, self.settings.map.step) = self.data(mem);
+            (self.settings.map.address, self.settings.map.step) = self.address_step(mem);
         }
         self
     }
@@ -333,7 +334,7 @@ impl Reader {
             c: byte_at(mem, self.position, 0),
             d: byte_at(mem, self.position, 1),
         };
-        self.control(control)
+        self.switch(control)
             .repeat_group(mem, control)
             .address_group(mem, control)
             .scroll_group(mem, control)

@@ -1,13 +1,12 @@
 -- Sound settings: the row of tests taken apart into facts and put together again; beginning, advancing and going dark keep it. Assumes nothing.
 use Rattle.std.proofs.Common.{rules}
 use mathlib.Core.Path.{◌≡◌, refl}
-use mathlib.Core.Bool.{Bool, true}
+use mathlib.Core.Bool.{true}
 use mathlib.Core.List.{[], ◌∷◌}
-use Prim.Native.Nat.{ℕ, ◌≤◌, ◌<◌}
+use Prim.Native.Nat.{◌≤◌, ◌<◌}
 use lib.Dec.{leb}
 use Rattle.laws.proofs.Choice.{each_test}
 use Rattle.settings.specs.Settings.{no_record, beginning, sound_overlay, sound_map, sound_look, sound_settings, advanced_overlay, advanced_map, advanced, off}
-use Rattle.settings.specs.Parts.{overlay_at, in_mode, stepping, scrolled, in_font, map_at, switched, map_stepping}
 use Rattle.settings.specs.declared.Settings.{Settings}
 use Rattle.settings.specs.declared.Overlay.{Overlay}
 use Rattle.settings.specs.declared.Map.{Map}
