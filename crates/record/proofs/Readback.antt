@@ -1,9 +1,9 @@
 -- What a record reads back as: one with all seven data groups (22 bytes), and one with RPTL, OVSCRL, CHBASE and OVATT (8 bytes). Assumes nothing.
+use Rattle.std.proofs.Common.{rules}
 use mathlib.Core.Path.{◌≡◌, refl, ◌∙◌}
 use mathlib.Core.Bool.{Bool, true, false, or-true}
 use mathlib.Core.List.{List}
 use Prim.Native.Nat.{ℕ, ◌+◌, ◌/◌, ◌%◌}
-use native.Mathlib.Nat.{mod-add-mod, mod-mod, add_assoc, add-zero}
 use Rattle.laws.specs.Bit.{bit}
 use Rattle.settings.specs.Parts.{overlay_at, in_mode, stepping, scrolled, in_font, map_at, switched, map_stepping, fielded, with_overlay, with_map, with_look, with_origin}
 use Rattle.settings.specs.declared.Settings.{Settings}
@@ -26,46 +26,46 @@ module _ (mem : List ℕ) (r : Reader) (ended : Bool) where
   module _ (v n t : ℕ) (s : Settings) where
     repeat_read : bit v 5 ≡ true → repeat_group mem v (put n t s) ≡ put (n + 1) (byte_at mem p n) s
     unfolding repeat_group
-    repeat_read h = simp (h, mod-add-mod, mod-mod, add_assoc, add-zero)
+    repeat_read h = search rules
 
     address_read : bit v 6 ≡ true → address_group mem v (put n t s) ≡ put (n + 5) t (with_overlay (stepping (address_at mem p n) (step_at mem p (n + 3)) s.overlay) s)
     unfolding address_group
-    address_read h = simp (h, mod-add-mod, mod-mod, add_assoc, add-zero)
+    address_read h = search rules
 
     address_none : bit v 6 ≡ false → address_group mem v (put n t s) ≡ put n t s
     unfolding address_group
-    address_none h = simp h
+    address_none h = search rules
 
     scroll_read : bit v 7 ≡ true → scroll_group mem v (put n t s) ≡ put (n + 2) t (with_overlay (scrolled (byte_at mem p n % 8) (byte_at mem p (n + 1) % 8) s.overlay) s)
     unfolding scroll_group
-    scroll_read h = simp (h, mod-add-mod, mod-mod, add_assoc, add-zero)
+    scroll_read h = search rules
 
     font_read : bit v 0 ≡ true → font_group mem v (put n t s) ≡ put (n + 1) t (with_overlay (in_font (byte_at mem p n) s.overlay) s)
     unfolding font_group
-    font_read h = simp (h, mod-add-mod, mod-mod, add_assoc, add-zero)
+    font_read h = search rules
 
     map_read : bit v 1 ≡ true → map_group mem v (put n t s) ≡ put (n + 5) t (with_map (map_stepping (address_at mem p n) (step_at mem p (n + 3)) s.map) s)
     unfolding map_group
-    map_read h = simp (h, mod-add-mod, mod-mod, add_assoc, add-zero)
+    map_read h = search rules
 
     map_none : bit v 1 ≡ false → map_group mem v (put n t s) ≡ put n t s
     unfolding map_group
-    map_none h = simp h
+    map_none h = search rules
 
     abbrev fields : ℕ → ℕ → ℕ → ℕ → Settings
     fields a b c d = with_map (fielded (a % 32) (b % 32) (field_width c) (d % 32 + 1) s.map) s
 
     field_read : bit v 2 ≡ true → field_group mem v (put n t s) ≡ put (n + 4) t (fields (byte_at mem p n) (byte_at mem p (n + 1)) (byte_at mem p (n + 2)) (byte_at mem p (n + 3)))
     unfolding field_group
-    field_read h = simp (h, mod-add-mod, mod-mod, add_assoc, add-zero)
+    field_read h = search rules
 
     field_none : bit v 2 ≡ false → field_group mem v (put n t s) ≡ put n t s
     unfolding field_group
-    field_none h = simp h
+    field_none h = search rules
 
     look_read : bit v 3 ≡ true → look_group mem v (put n t s) ≡ put (n + 2) t (with_look (look_at mem p n) s)
     unfolding look_group
-    look_read h = simp (h, mod-add-mod, mod-mod, add_assoc, add-zero)
+    look_read h = search rules
 
 -- control bytes that announce all seven groups
 pub record Full (c d : ℕ) : Type 0 where

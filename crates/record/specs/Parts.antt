@@ -9,7 +9,7 @@ use Rattle.record.specs.declared.Reader.{Reader}
 
 -- a reader n bytes further on, with other settings
 abbrev pub read_on : ℕ → Settings → Reader → Reader
-read_on n s r = record { settings = s; position = (r.position + n) % 524288; repeat = r.repeat; ended = r.ended }
+read_on n s r = record r { settings = s; position = (r.position + n) % 524288 }
 
 -- the same, with another overlay, map or look
 abbrev pub overlaid : ℕ → Overlay → Reader → Reader
@@ -23,10 +23,10 @@ looked n l r = read_on n (with_look l r.settings) r
 
 -- a reader where it is: with other settings, with another repeat, ended or not
 abbrev pub with_settings : Settings → Reader → Reader
-with_settings s r = record { settings = s; position = r.position; repeat = r.repeat; ended = r.ended }
+with_settings s r = record r { settings = s }
 
 abbrev pub repeating : ℕ → Reader → Reader
-repeating repeat r = record { settings = r.settings; position = r.position; repeat = repeat; ended = r.ended }
+repeating repeat r = record r { repeat = repeat }
 
 abbrev pub ended_by : Bool → Reader → Reader
-ended_by ended r = record { settings = r.settings; position = r.position; repeat = r.repeat; ended = ended }
+ended_by ended r = record r { ended = ended }

@@ -1,5 +1,4 @@
 -- Laws of the settings.
-mod Cases
 pub mod Steps
 pub mod Sound
 mod Once

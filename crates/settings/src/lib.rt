@@ -14,7 +14,7 @@ ghost use Rattle.settings.specs.Settings.{
 };
 
 // The overlay: mode 0 off, 1 text, 2 SR, 3 HR, 4 LR; the address and step of its data; the text counter.
-#[derive(Clone, Copy)]
+#[derive(Clone, Copy, Debug, Default, PartialEq, Eq)]
 pub struct Overlay {
     pub mode: u8,
     pub address: u32,
@@ -26,7 +26,7 @@ pub struct Overlay {
 }
 
 // The attribute map: its data, the size of its fields, and the field counter.
-#[derive(Clone, Copy)]
+#[derive(Clone, Copy, Debug, PartialEq, Eq)]
 pub struct Map {
     pub on: bool,
     pub address: u32,
@@ -39,7 +39,7 @@ pub struct Map {
 }
 
 // What OVATT sets: the display's width, the palettes of overlay and playfield, the priority.
-#[derive(Clone, Copy)]
+#[derive(Clone, Copy, Debug, PartialEq, Eq)]
 pub struct Look {
     pub width: u8,
     pub palette: u8,
@@ -48,7 +48,7 @@ pub struct Look {
 }
 
 // The settings of one scanline, and its origin: the address of the record last read for it, or NO_RECORD.
-#[derive(Clone, Copy)]
+#[derive(Clone, Copy, Debug, PartialEq, Eq)]
 pub struct Settings {
     pub overlay: Overlay,
     pub map: Map,
@@ -68,31 +68,28 @@ impl Overlay {
     fn sound(self) -> bool
         ensures { result ≡ sound_overlay self }
     {
-        (self.mode <= 4)
-            & (self.address < Settings::ADDRESSES)
-            & (self.step < 4096)
-            & (self.hscroll < 8)
-            & (self.vscroll < 8)
-            & (self.counter < 8)
+        self.mode <= 4
+            && self.address < Settings::ADDRESSES
+            && self.step < 4096
+            && self.hscroll < 8
+            && self.vscroll < 8
+            && self.counter < 8
     }
 
     // A text row has eight lines and is then stepped over; a pixel line at once.
+    #[tactic(auto, unfolding(crate::specs::Settings::advanced_overlay))]
     fn advance(mut self) -> Self
         ensures { result ≡ advanced_overlay self }
     {
-        if self.mode == 0 {
-            return self;
-        }
-        if self.mode == 1 {
-            if self.counter < 7 {
-                self.counter += 1;
-                return self;
+        match self.mode {
+            0 => {}
+            1 if self.counter < 7 => self.counter += 1,
+            1 => {
+                self.counter = 0;
+                self.address = further(self.address, self.step);
             }
-            self.counter = 0;
-            self.address = further(self.address, self.step);
-            return self;
+            _ => self.address = further(self.address, self.step),
         }
-        self.address = further(self.address, self.step);
         self
     }
 }
@@ -101,33 +98,29 @@ impl Map {
     fn sound(self) -> bool
         ensures { result ≡ sound_map self }
     {
-        (self.address < Settings::ADDRESSES)
-            & (self.step < 4096)
-            & (self.hscroll < 32)
-            & (self.vscroll < 32)
-            & (8 <= self.width)
-            & (self.width <= 32)
-            & (1 <= self.height)
-            & (self.height <= 32)
-            & (self.counter < self.height)
+        self.address < Settings::ADDRESSES
+            && self.step < 4096
+            && self.hscroll < 32
+            && self.vscroll < 32
+            && (8..=32).contains(&self.width)
+            && (1..=32).contains(&self.height)
+            && self.counter < self.height
     }
 
     // A field has `height` lines. Counted in 16 bits, so that the sum fits whatever the counter is.
+    #[tactic(auto, unfolding(crate::specs::Settings::advanced_map))]
     fn advance(mut self) -> Self
         ensures { result ≡ advanced_map self }
     {
         if self.on {
-            let next = self.counter as u16 + 1;
-            if next < self.height as u16 {
+            if self.counter as u16 + 1 < self.height as u16 {
                 self.counter += 1;
-                return self;
+            } else {
+                self.counter = 0;
+                self.address = further(self.address, self.step);
             }
-            self.counter = 0;
-            self.address = further(self.address, self.step);
-            self
-        } else {
-            self
         }
+        self
     }
 }
 
@@ -135,7 +128,7 @@ impl Look {
     fn sound(self) -> bool
         ensures { result ≡ sound_look self }
     {
-        (self.width <= 2) & (self.palette < 4) & (self.playfield < 4)
+        self.width <= 2 && self.palette < 4 && self.playfield < 4
     }
 }
 
@@ -151,15 +144,7 @@ impl Settings {
         ensures { result ≡ beginning }
     {
         Self {
-            overlay: Overlay {
-                mode: 0,
-                address: 0,
-                step: 0,
-                hscroll: 0,
-                vscroll: 0,
-                font: 0,
-                counter: 0,
-            },
+            overlay: Overlay::default(),
             map: Map {
                 on: false,
                 address: 0,
@@ -183,28 +168,26 @@ impl Settings {
     pub fn sound(self) -> bool
         ensures { result ≡ sound_settings self }
     {
-        let overlay = self.overlay;
-        let map = self.map;
-        let look = self.look;
-        overlay.sound() & map.sound() & look.sound() & (self.origin <= Settings::NO_RECORD)
+        self.overlay.sound()
+            && self.map.sound()
+            && self.look.sound()
+            && self.origin <= Settings::NO_RECORD
     }
 
     // What one displayed line leaves for the next.
+    #[tactic(auto, unfolding(crate::specs::Settings::advanced))]
     pub fn advance(self) -> Self
         ensures { result ≡ advanced self }
     {
-        let overlay = self.overlay;
-        let map = self.map;
-        let look = self.look;
         Self {
-            overlay: overlay.advance(),
-            map: map.advance(),
-            look,
-            origin: self.origin,
+            overlay: self.overlay.advance(),
+            map: self.map.advance(),
+            ..self
         }
     }
 
     // Overlay and map off, all else held: the lines below the list's end.
+    #[tactic(auto, unfolding(crate::specs::Settings::off))]
     pub fn dark(mut self) -> Self
         ensures { result ≡ off self }
     {
