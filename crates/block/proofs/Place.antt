@@ -22,7 +22,7 @@ module _ (c : ℕ) (some : 0 < c) where
 
   -- the next place: in the same row, or at the beginning of the next
   pub next_col : (n : ℕ) → n % c + 1 < c → (suc n / c ≡ n / c) × (suc n % c ≡ n % c + 1)
-  next_col n h = rw (← add-one) (far_col n 1 h)
+  next_col n h = rw (← add-one n) (far_col n 1 h)
 
   pub next_row : (n : ℕ) → c ≤ n % c + 1 → (suc n / c ≡ n / c + 1) × (suc n % c ≡ 0)
   next_row n h =
