@@ -1,9 +1,8 @@
 -- The test for no block is true of that block, and of it alone. Assumes nothing.
-use mathlib.Core.Path.{◌≡◌, refl, ap, ◌∙◌}
+use mathlib.Core.Path.{◌≡◌, ap}
 use mathlib.Core.Bool.{true}
 use native.Mathlib.Omega.{arith}
 use Rattle.std.proofs.lemmas.Bool.Decides.{nat_tests}
-use Rattle.step.specs.declared.Side.{Side}
 use Rattle.block.specs.Block.{none_side, is_none, no_side, no_block}
 use Rattle.block.specs.declared.Block.{Block}
 

@@ -1,5 +1,5 @@
 -- The n-th place of a table with c columns: row n / c, column n % c. Assumes nothing.
-use mathlib.Core.Path.{◌≡◌, sym, ◌∙◌, ap}
+use mathlib.Core.Path.{◌≡◌}
 use Prim.Native.Nat.{ℕ, suc, ◌+◌, ◌*◌, ◌/◌, ◌%◌, ◌<◌, ◌≤◌}
 use native.Mathlib.Nat.{mod-lt, mul-mod_left, mul-div_left}
 use native.Mathlib.Numerals.{add-one}

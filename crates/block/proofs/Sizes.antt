@@ -1,8 +1,9 @@
--- How large a block can be, from bytes. Assumes nothing.
-use Prim.Native.Nat.{◌≤◌, ◌<◌}
+-- How large a block and its addresses can be, from bytes. Assumes nothing.
+use Prim.Native.Nat.{ℕ, ◌≤◌, ◌<◌}
 use native.Mathlib.Nat.{mul-le-mul}
 use native.Mathlib.Omega.{arith}
-use Rattle.block.specs.Block.{pattern_of, columns_of, rows_of}
+use Rattle.step.proofs.Laws.{side_small}
+use Rattle.block.specs.Block.{pattern_of, columns_of, rows_of, dest_address, source_address}
 use Rattle.block.specs.declared.Block.{Block}
 
 module _ (b : Block) where
@@ -26,3 +27,11 @@ module _ (b : Block) where
   pub pattern_pos : 0 < pattern_of b
   unfolding pattern_of
   pattern_pos = grind arith
+
+  pub dest_small : (row col : ℕ) → dest_address b row col < 524288
+  unfolding dest_address
+  dest_small row col = side_small b.dest row col
+
+  pub source_small : (row col : ℕ) → source_address b row col < 524288
+  unfolding source_address
+  source_small row col = side_small b.source _ _
