@@ -1,18 +1,15 @@
 -- Which blitters are sound, as facts and as the test. Assumes nothing.
 use mathlib.Core.Path.{◌≡◌, refl}
-use mathlib.Core.Bool.{Bool, true, false, cond}
-use mathlib.Core.List.{[], ◌∷◌}
+use mathlib.Core.Bool.{Bool, true}
 use Prim.Native.Nat.{ℕ, ◌≤◌, ◌<◌}
 use native.Mathlib.Omega.{arith}
-use lib.Dec.{eqb, ltb, leb}
-use borrow.Author.Tests.{eqb-true, eqb-false, ltb-true, leb-true, eq-eqb, ne_eqb, lt-ltb, le-leb}
-use Rattle.laws.proofs.Choice.{both, and_both, each_test}
+use Rattle.std.proofs.lemmas.Bool.Decides.{nat_tests}
 use Rattle.block.specs.Block.{columns_of, rows_of, no_block, is_none}
 use Rattle.block.specs.declared.Block.{Block}
 use Rattle.block.proofs.None.{is_none_lem, none_is}
 use Rattle.block.proofs.Sizes.{columns_pos, rows_pos}
 use Rattle.blitter.specs.declared.Blitter.{Blitter}
-use Rattle.blitter.specs.State.{new_blitter, inside, blank, sound_blitter, started, stopped, interrupts}
+use Rattle.blitter.specs.State.{new_blitter, sound_blitter, started, stopped, interrupts}
 
 -- "while BUSY, row and column inside the block"
 pub record Inside (block : Block) (row col : ℕ) : Type 0 where
@@ -31,45 +28,21 @@ pub record Sound (b : Blitter) : Type 0 where
   pub busy : b.flags ≡ 2 → Inside b.block b.row b.col
   pub idle : (b.flags ≡ 2 → ⊥) → Blank b.block b.row b.col
 
-module _ (block : Block) (row col : ℕ) where
-  pub inside_facts : inside block row col ≡ true → Inside block row col
-  inside_facts e =
-      let p = both (ltb row (rows_of block)) (ltb col (columns_of block)) e in
-      record { row_in = ltb-true row (rows_of block) p.0; col_in = ltb-true col (columns_of block) p.1 }
-
-  pub inside_test : Inside block row col → inside block row col ≡ true
-  inside_test i = and_both _ _ (lt-ltb row (rows_of block) i.row_in) (lt-ltb col (columns_of block) i.col_in)
-
-  pub blank_facts : blank block row col ≡ true → Blank block row col
-  blank_facts e =
-      let (none, (row-0, (col-0, end))) = each_test (is_none block) (eqb row 0 ∷ eqb col 0 ∷ []) e in
-      record { block_is = is_none_lem block none; row_is = eqb-true row 0 row-0; col_is = eqb-true col 0 col-0 }
-
-  pub blank_test : Blank block row col → blank block row col ≡ true
-  blank_test i = and_both _ _ (and_both _ _ (none_is block i.block_is) (eq-eqb row 0 i.row_is)) (eq-eqb col 0 i.col_is)
-
 -- what the test says
 pub sound_facts : (b : Blitter) → sound_blitter b ≡ true → Sound b
 unfolding sound_blitter
 sound_facts b e =
-    let placed = cond (eqb b.flags 2) (inside b.block b.row b.col) (blank b.block b.row b.col) in
-    let (list, (flags, (position, end))) = each_test (ltb b.list 524288) (leb b.flags 2 ∷ placed ∷ []) e in
     record {
-      list_in = ltb-true b.list 524288 list;
-      flags_in = leb-true b.flags 2 flags;
-      busy = λ two. inside_facts b.block b.row b.col (rw (eq-eqb b.flags 2 two) at position);
-      idle = λ not. blank_facts b.block b.row b.col (rw (ne_eqb b.flags 2 not) at position);
+      list_in = grind (arith, nat_tests);
+      flags_in = grind (arith, nat_tests);
+      busy = λ two. record { row_in = grind (arith, nat_tests); col_in = grind (arith, nat_tests) };
+      idle = λ not. record { block_is = is_none_lem b.block (grind (arith, nat_tests)); row_is = grind (arith, nat_tests); col_is = grind (arith, nat_tests) };
     }
 
 -- and the other way round
 pub sound_test : (b : Blitter) → Sound b → sound_blitter b ≡ true
 unfolding sound_blitter
-sound_test b s =
-    and_both _ _ (and_both _ _ (lt-ltb b.list 524288 s.list_in) (le-leb b.flags 2 s.flags_in)) (by (eqb b.flags 2) refl)
-  where
-    by : (t : Bool) → eqb b.flags 2 ≡ t → cond t (inside b.block b.row b.col) (blank b.block b.row b.col) ≡ true
-    by true e = inside_test b.block b.row b.col (s.busy (eqb-true b.flags 2 e))
-    by false e = blank_test b.block b.row b.col (s.idle (eqb-false b.flags 2 e))
+sound_test b s = let none : (b.flags ≡ 2 → ⊥) → is_none b.block ≡ true = λ not. none_is b.block (s.idle not).block_is in grind (arith, nat_tests, none)
 
 pub first_inside : (block : Block) → Inside block 0 0
 first_inside block = record { row_in = rows_pos block; col_in = columns_pos block }

@@ -1,7 +1,6 @@
-#![tactic(auto)]
+#![tactic(auto, unfolding(crate::specs::State::sound_blitter, crate::specs::State::started, crate::specs::State::stopped, crate::specs::State::interrupts))]
 
 ghost use Rattle.std.specs.Prelude.{◌≡◌, cond, eqb};
-ghost use Rattle.block.specs.Byte.{new_note};
 ghost use Rattle.blitter.specs.State.{new_blitter, inside, blank, sound_blitter, started, stopped, interrupts};
 
 use block::{Block, Note};
@@ -9,7 +8,7 @@ use vram::Vram;
 
 // The blitter between two ticks: the interrupt's enable and request, the list address, the flags
 // (0 idle, 1 BCB_LOAD, 2 BUSY), what collisions left, the block being done, and the position in it.
-#[derive(Clone, Copy)]
+#[derive(Clone, Copy, Debug, PartialEq, Eq, Default)]
 pub struct Blitter {
     pub irqe: bool,
     pub irqf: bool,
@@ -21,46 +20,27 @@ pub struct Blitter {
     pub col: u16,
 }
 
-// No collision yet.
-fn new_note() -> Note
-    ensures { result ≡ new_note }
-{
-    Note { code: 0 }
-}
-
 impl Blitter {
     // An idle blitter: every field 0.
+    #[tactic(auto, unfolding(block::specs::Block::no_block, block::specs::Block::no_side))]
     pub fn new() -> Blitter
         ensures { result ≡ new_blitter }
     {
-        let block = Block::none();
-        let note = new_note();
-        Blitter {
-            irqe: false,
-            irqf: false,
-            list: 0,
-            flags: 0,
-            note,
-            block,
-            row: 0,
-            col: 0,
-        }
+        Blitter::default()
     }
 
     // While BUSY: the position is inside the block.
     fn inside(self) -> bool
         ensures { result ≡ inside self.block self.row self.col }
     {
-        let block = self.block;
-        (self.row < block.rows()) & (self.col < block.columns())
+        (self.row < self.block.rows()) & (self.col < self.block.columns())
     }
 
     // While not BUSY: the block's bytes and the position are 0.
     fn blank(self) -> bool
         ensures { result ≡ blank self.block self.row self.col }
     {
-        let block = self.block;
-        block.is_none() & (self.row == 0) & (self.col == 0)
+        self.block.is_none() & (self.row == 0) & (self.col == 0)
     }
 
     fn placed(self) -> bool
@@ -83,12 +63,10 @@ impl Blitter {
     pub fn start(mut self, list: u32) -> Blitter
         ensures { result ≡ started list self }
     {
-        let none = Block::none();
-        let note = new_note();
         self.list = list;
         self.flags = 1;
-        self.note = note;
-        self.block = none;
+        self.note = Note::default();
+        self.block = Block::none();
         self.row = 0;
         self.col = 0;
         self
@@ -98,9 +76,8 @@ impl Blitter {
     pub fn stop(mut self) -> Blitter
         ensures { result ≡ stopped self }
     {
-        let none = Block::none();
         self.flags = 0;
-        self.block = none;
+        self.block = Block::none();
         self.row = 0;
         self.col = 0;
         self

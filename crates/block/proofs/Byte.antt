@@ -1,18 +1,17 @@
 -- One destination byte of a block in memory, and the first k bytes: what they leave as it was, and how large they are. Assumes nothing.
 use mathlib.Core.Path.{◌≡◌, refl, ap, ◌∙◌}
 use mathlib.Core.Bool.{cond}
-use mathlib.Core.List.{List, [], ◌∷◌}
+use mathlib.Core.List.{List}
 use Prim.Native.Nat.{ℕ, zero, suc, ◌≤◌, ◌<◌}
 use native.Mathlib.Omega.{arith}
-use lib.Bits.{bit_and, bit_xor, and_lt, xor_lt}
-use lib.ListN.{length, get_or, set, length-set}
-use lib.Seq.{get_or-set_other}
-use Rattle.laws.proofs.Choice.{by_cond}
+use lib.Bits.{and_lt, xor_lt}
+use lib.ListN.{length, get_or, set}
+use Rattle.std.proofs.lemmas.Grind.{common_steps}
 use Rattle.vram.specs.Memory.{Bytes, place, cell_at}
 use Rattle.mode.proofs.Laws.{value_small, code_small, accesses_small}
-use Rattle.mode.specs.Mode.{writes_in, stroke_of}
+use Rattle.mode.specs.Mode.{stroke_of}
 use Rattle.block.specs.Fold.{each}
-use Rattle.block.specs.Block.{mode_of, dest_address, source_address}
+use Rattle.block.specs.Block.{mode_of}
 use Rattle.block.specs.Byte.{reads_source, source_by, source_byte, stroke_by, written_by, written, struck_by, struck_at, row_at, col_at, dest_of, source_of, block_mem, block_note}
 use Rattle.block.specs.declared.Block.{Block}
 use Rattle.block.specs.declared.Note.{Note}
@@ -26,43 +25,34 @@ place_length x y a e = ap (λ (l : ℕ). place l a) e
 module _ (x y : List ℕ) (b : Block) (n : ℕ) (long : length x ≡ length y) where
   pub dest_same : dest_of x b n ≡ dest_of y b n
   unfolding dest_of
-  dest_same = place_length x y (dest_address b (row_at b n) (col_at b n)) long
+  dest_same = rw long
 
   pub source_same : source_of x b n ≡ source_of y b n
   unfolding source_of
-  source_same = place_length x y (source_address b (row_at b n) (col_at b n)) long
+  source_same = rw long
 
   -- and s depends on the byte there
   pub value_same : get_or x (source_of y b n) 0 ≡ get_or y (source_of y b n) 0 → source_byte b x (row_at b n) (col_at b n) ≡ source_byte b y (row_at b n) (col_at b n)
   unfolding source_by source_of
-  value_same h =
-      ap (λ (v : ℕ). bit_xor (bit_and (cond (reads_source b) v 0) b.andmask) b.xormask)
-      (ap (λ (p : ℕ). get_or x p 0) (place_length x y (source_address b (row_at b n) (col_at b n)) long) ∙ h)
+  value_same h = rw (long, h)
 
 -- a byte put into a list of bytes
 set_byte : (m : List ℕ) (p v i : ℕ) → Bytes m → v < 256 → get_or (set m p v) i 0 < 256
-set_byte [] p v i bytes h = bytes i
-set_byte (x ∷ m) zero v zero bytes h = h
-set_byte (x ∷ m) zero v (suc i) bytes h = bytes (suc i)
-set_byte (x ∷ m) (suc p) v zero bytes h = bytes 0
-set_byte (x ∷ m) (suc p) v (suc i) bytes h = set_byte m p v i (λ j. bytes (suc j)) h
+set_byte m p v i bytes h = grind (arith, common_steps, bytes i)
 
 -- a source's access
 pub read_small : (b : Block) → cond (reads_source b) 1 0 ≤ 1
-read_small b = by_cond (λ (v : ℕ). v ≤ 1) (reads_source b) 1 0 (λ _. omega arith) (λ _. omega arith)
+read_small b = grind arith
 
 module _ (b : Block) (from to : ℕ) (mem : List ℕ) where
   pub written_length : length (written_by b from to mem) ≡ length mem
   unfolding written_by
-  written_length = by_cond (λ (m : List ℕ). length m ≡ length mem) (writes_in (mode_of b) (source_by b mem from)) _ mem (λ _. length-set mem _ _) (λ _. refl)
+  written_length = grind (arith, common_steps)
 
   -- a place that is not the destination's keeps its byte
   pub written_other : (i : ℕ) → (i ≡ place (length mem) to → ⊥) → get_or (written_by b from to mem) i 0 ≡ get_or mem i 0
   unfolding written_by
-  written_other i h =
-      by_cond (λ (m : List ℕ). get_or m i 0 ≡ get_or mem i 0) (writes_in (mode_of b) (source_by b mem from)) _ mem
-      (λ _. get_or-set_other mem (place (length mem) to) i _ 0 h)
-      (λ _. refl)
+  written_other i h = grind (arith, common_steps)
 
   -- a byte tick has at most 3 accesses
   pub struck_small : (note : Note) → (struck_by b mem from to note).accesses ≤ 3
@@ -72,15 +62,14 @@ module _ (b : Block) (from to : ℕ) (mem : List ℕ) where
   module _ (bytes : Bytes mem) where
     source_byte_lem : b.andmask < 256 → b.xormask < 256 → source_by b mem from < 256
     unfolding source_by
-    source_byte_lem h k = xor_lt 8 _ b.xormask (and_lt 8 _ b.andmask (by_cond (λ (v : ℕ). v < 256) (reads_source b) _ 0 (λ _. bytes _) (λ _. omega arith)) h) k
+    source_byte_lem h k = xor_lt 8 _ b.xormask (and_lt 8 _ b.andmask (grind (arith, bytes)) h) k
 
     -- memory stays one of bytes
     pub written_bytes : b.andmask < 256 → b.xormask < 256 → Bytes (written_by b from to mem)
     unfolding written_by
     written_bytes h k i =
-        by_cond (λ (m : List ℕ). get_or m i 0 < 256) (writes_in (mode_of b) (source_by b mem from)) _ mem
-        (λ _. set_byte mem (place (length mem) to) _ i bytes (value_small (mode_of b) _ (cell_at mem to) (source_byte_lem h k) (bytes _)))
-        (λ _. bytes i)
+        let v = value_small (mode_of b) _ (cell_at mem to) (source_byte_lem h k) (bytes _) in
+        grind (arith, bytes i, set_byte mem (place (length mem) to) _ i bytes v)
 
     -- and the note one of bytes
     pub note_bytes : (note : Note) → NoteBytes note → NoteBytes (struck_by b mem from to note).note
@@ -111,11 +100,8 @@ module _ (b : Block) (mem : List ℕ) where
 
   -- a place that none of their destinations falls on keeps its byte
   pub block_other : (k i : ℕ) → ((n : ℕ) → n < k → i ≡ dest_of mem b n → ⊥) → get_or (block_mem b k mem) i 0 ≡ get_or mem i 0
-  block_other zero i h = ap (λ (m : List ℕ). get_or m i 0) block_none
+  unfolding block_mem each dest_of
+  block_other zero i h = refl
   block_other (suc k) i h =
-      ap (λ (m : List ℕ). get_or m i 0) (block_next k)
-      ∙ written_other b _ _ (block_mem b k mem) i (λ e. h k (omega arith) (e ∙ there k))
-      ∙ block_other k i (λ n l. h n (omega arith))
-    where
-      there : (k : ℕ) → place (length (block_mem b k mem)) (dest_address b (row_at b k) (col_at b k)) ≡ dest_of mem b k
-      there k = unfold dest_of in place_length (block_mem b k mem) mem (dest_address b (row_at b k) (col_at b k)) (block_length k)
+      let there = dest_same (block_mem b k mem) mem b k (block_length k) in
+      written_other b _ _ (block_mem b k mem) i (λ e. h k (omega arith) (e ∙ there)) ∙ block_other k i (λ n l. h n (omega arith))

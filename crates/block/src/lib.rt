@@ -1,14 +1,14 @@
-#![tactic(auto)]
+#![tactic(auto, unfolding(crate::specs::Block::side_at, crate::specs::Block::block_at, crate::specs::Block::pattern_of, crate::specs::Block::columns_of, crate::specs::Block::rows_of, crate::specs::Block::dest_address, crate::specs::Block::source_address, crate::specs::Byte::reads_source))]
 
 ghost use Rattle.std.specs.Prelude.{◌≡◌, ◌≤◌};
-ghost use Rattle.block.specs.Block.{side_at, block_at, none_side, is_none, no_block, width_of, zoom_x, zoom_y, pattern_of, columns_of, rows_of, mode_of, next_of, dest_address, source_address};
+ghost use Rattle.block.specs.Block.{side_at, block_at, is_none, no_block, width_of, zoom_x, zoom_y, pattern_of, columns_of, rows_of, mode_of, next_of, dest_address, source_address};
 ghost use Rattle.block.specs.Byte.{reads_source};
 
 use step::Side;
 
 // The 21 bytes of a block, as read: the source's side, the destination's, and nine bytes.
 // Unused bits stay where they are and count for nothing.
-#[derive(Clone, Copy)]
+#[derive(Clone, Copy, Debug, PartialEq, Eq, Default)]
 pub struct Block {
     pub source: Side,
     pub dest: Side,
@@ -24,13 +24,13 @@ pub struct Block {
 }
 
 // What the bytes of a block leave of collisions: the code of the last.
-#[derive(Clone, Copy)]
+#[derive(Clone, Copy, Debug, PartialEq, Eq, Default)]
 pub struct Note {
     pub code: u8,
 }
 
 // What one destination byte leaves beside memory: the note after it, and its accesses.
-#[derive(Clone, Copy)]
+#[derive(Clone, Copy, Debug, PartialEq, Eq, Default)]
 pub struct Struck {
     pub note: Note,
     pub accesses: u8,
@@ -55,11 +55,9 @@ fn side_at(mem: &[u8], list: u32, k: u8) -> Side
 pub fn block_at(mem: &[u8], list: u32) -> Block
     ensures { result ≡ block_at mem.now list }
 {
-    let source = side_at(mem, list, 0);
-    let dest = side_at(mem, list, 6);
     Block {
-        source,
-        dest,
+        source: side_at(mem, list, 0),
+        dest: side_at(mem, list, 6),
         width0: vram::byte_at(mem, list, 12),
         width1: vram::byte_at(mem, list, 13),
         height: vram::byte_at(mem, list, 14),
@@ -72,70 +70,21 @@ pub fn block_at(mem: &[u8], list: u32) -> Block
     }
 }
 
-fn none_side(side: Side) -> bool
-    ensures { result ≡ none_side side }
-{
-    (side.adr0 == 0)
-        & (side.adr1 == 0)
-        & (side.adr2 == 0)
-        & (side.y0 == 0)
-        & (side.y1 == 0)
-        & (side.x == 0)
-}
-
 impl Block {
     // No block: every byte 0.
+    #[tactic(auto, unfolding(crate::specs::Block::no_side, crate::specs::Block::no_block))]
     pub fn none() -> Block
         ensures { result ≡ no_block }
     {
-        let source = Side {
-            adr0: 0,
-            adr1: 0,
-            adr2: 0,
-            y0: 0,
-            y1: 0,
-            x: 0,
-        };
-        let dest = Side {
-            adr0: 0,
-            adr1: 0,
-            adr2: 0,
-            y0: 0,
-            y1: 0,
-            x: 0,
-        };
-        Block {
-            source,
-            dest,
-            width0: 0,
-            width1: 0,
-            height: 0,
-            andmask: 0,
-            xormask: 0,
-            hitmask: 0,
-            zoom: 0,
-            pattern: 0,
-            control: 0,
-        }
+        Block::default()
     }
 
     // Whether every byte is 0.
+    #[tactic(auto, unfolding(crate::specs::Block::no_side, crate::specs::Block::no_block, crate::specs::Block::none_side, crate::specs::Block::is_none))]
     pub fn is_none(self) -> bool
         ensures { result ≡ is_none self }
     {
-        let source = self.source;
-        let dest = self.dest;
-        none_side(source)
-            & none_side(dest)
-            & (self.width0 == 0)
-            & (self.width1 == 0)
-            & (self.height == 0)
-            & (self.andmask == 0)
-            & (self.xormask == 0)
-            & (self.hitmask == 0)
-            & (self.zoom == 0)
-            & (self.pattern == 0)
-            & (self.control == 0)
+        self == Block::none()
     }
 
     fn width(self) -> u16
@@ -176,11 +125,11 @@ impl Block {
     pub fn pattern_width(self) -> u16
         ensures { result ≡ pattern_of self }
     {
-        let pattern = self.pattern;
-        if pattern / 128 % 2 == 1 {
-            return pattern as u16 % 64 + 1;
+        if self.pattern / 128 % 2 == 1 {
+            self.pattern as u16 % 64 + 1
+        } else {
+            self.width()
         }
-        self.width()
     }
 
     pub fn mode(self) -> u8
@@ -207,16 +156,14 @@ impl Block {
     pub fn destination(self, row: u16, col: u16) -> u32
         ensures { result ≡ dest_address self row col }
     {
-        let side = self.dest;
-        side.address(row, col)
+        self.dest.address(row, col)
     }
 
     // The address of its source byte: zoom repeats a source byte, the pattern a row's first columns.
     pub fn source(self, row: u16, col: u16) -> u32
         ensures { result ≡ source_address self row col }
     {
-        let side = self.source;
-        side.address(
+        self.source.address(
             row / self.zoom_y(),
             col / self.zoom_x() % self.pattern_width(),
         )

@@ -2,4 +2,3 @@
 pub mod Laws
 pub mod Further
 mod Once
-mod Sum

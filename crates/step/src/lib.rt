@@ -1,12 +1,12 @@
-#![tactic(auto)]
+#![tactic(auto, unfolding(crate::specs::Step::signed, crate::specs::Step::step_x, crate::specs::Step::step_y, crate::specs::Step::wrap19, crate::specs::Step::across_of, crate::specs::Step::down_of))]
 
-ghost use Rattle.std.specs.Prelude.{◌≡◌, ◌+◌, ◌<◌, ◌≤◌};
-ghost use Rattle.std.specs.Int.Signed.{mag};
-ghost use Rattle.step.specs.Step.{signed, step_x, step_y, wrap19, side_address, across_of, down_of};
+ghost use Rattle.std.specs.Prelude.{◌≡◌, ◌*◌, ◌≤◌, pos, ◌*ℤ◌};
+ghost use Rattle.std.specs.Int.RustNames.{unsigned_abs};
+ghost use Rattle.step.specs.Step.{step_x, step_y, wrap19, side_address, across_of, down_of};
 
 // The source's or the destination's six bytes of a block, as the manual orders them:
 // the address, the step in y, the step in x.
-#[derive(Clone, Copy)]
+#[derive(Clone, Copy, Debug, PartialEq, Eq, Default)]
 pub struct Side {
     pub adr0: u8,
     pub adr1: u8,
@@ -16,37 +16,35 @@ pub struct Side {
     pub x: u8,
 }
 
-// A number below 2 * half, read as signed.
-fn signed_of(half: u32, v: u32) -> i32
-    requires { (half ≤ 4096) × (v < half + half) }
-    ensures { result ≡ signed half v }
-{
-    if v < half {
-        return v as i32;
-    }
-    v as i32 - (half + half) as i32
-}
-
 // The step in x: a signed byte.
 pub fn step_x(x: u8) -> i32
     ensures { result ≡ step_x x }
 {
-    signed_of(128, x as u32)
+    i32::from(x.cast_signed())
 }
 
 // The step in y: the low byte and five bits of the high byte, signed.
 pub fn step_y(low: u8, high: u8) -> i32
     ensures { result ≡ step_y low high }
 {
-    signed_of(4096, low as u32 + 256 * (high as u32 % 32))
+    let bits = low as i32 + 256 * (high as i32 % 32);
+    if bits < 4096 { bits } else { bits - 8192 }
 }
 
-// A sum reduced to 19 bits. 1,073,741,824 is a multiple of 524,288 and makes every sum positive.
+// A sum reduced to 19 bits. The machine reads a negative one 2^32 higher, a multiple of 524,288.
 fn wrap_19(z: i32) -> u32
-    requires { mag z < 1000000000 }
     ensures { result ≡ wrap19 z }
 {
-    (z + 1073741824) as u32 % 524288
+    z.cast_unsigned() % 524288
+}
+
+// Some steps, along a row or a column.
+fn steps(n: u16, step: i32) -> i32
+    requires { unsigned_abs step ≤ 4096 }
+    ensures value { result ≡ pos n *ℤ step }
+    ensures size { unsigned_abs result ≤ 65535 * 4096 }
+{
+    n as i32 * step
 }
 
 impl Side {
@@ -56,9 +54,9 @@ impl Side {
         ensures { result ≡ side_address self row col }
     {
         let start = vram::number_19(self.adr0, self.adr1, self.adr2);
-        let down = step_y(self.y0, self.y1);
-        let along = step_x(self.x);
-        wrap_19(start as i32 + row as i32 * down + col as i32 * along)
+        let down = steps(row, step_y(self.y0, self.y1));
+        let along = steps(col, step_x(self.x));
+        wrap_19(start as i32 + down + along)
     }
 
     // How much further the next column's address is, reduced to 19 bits.
