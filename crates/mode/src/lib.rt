@@ -156,19 +156,14 @@ fn code_nibbles(mask: u8, s: u8, d: u8, code: u8) -> u8
     code_by(2, mask, s / 16, d / 16, code / 16) * 16 + code_by(2, mask, s % 16, d % 16, code % 16)
 }
 
-// The collision code after a byte. Modes 1 to 5 have one rule and an arm each: with one arm for the five a byte in mode 1 took
-// a fifth longer.
+// The collision code after a byte: modes 1 to 5 have one rule.
 #[tactic(auto, unfolding(crate::specs::Mode::code_in, crate::specs::Mode::code_byte))]
 fn code_in(mode: u8, mask: u8, s: u8, d: u8, code: u8) -> u8
     ensures { result ≡ code_in mode mask s d code }
 {
     match mode {
         0 => code,
-        1 => code_by(32, mask, s, d, code),
-        2 => code_by(32, mask, s, d, code),
-        3 => code_by(32, mask, s, d, code),
-        4 => code_by(32, mask, s, d, code),
-        5 => code_by(32, mask, s, d, code),
+        1..=5 => code_by(32, mask, s, d, code),
         6 => code_nibbles(mask, s, d, code),
         _ => code,
     }
