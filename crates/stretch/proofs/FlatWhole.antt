@@ -10,7 +10,7 @@ use lib.Dec.{eqb, leb, ltb}
 use lib.ListN.{length, get_or}
 use borrow.Author.Tests.{eqb-true, eqb-false, lt-leb, le-ltb}
 use Rattle.laws.proofs.Choice.{true_false}
-use Rattle.vram.specs.Memory.{good_length, place}
+use Rattle.vram.specs.Memory.{place}
 use Rattle.block.specs.Block.{mode_of}
 use Rattle.block.specs.declared.Block.{Block}
 use Rattle.stretch.specs.declared.Stretch.{Stretch}
@@ -25,21 +25,21 @@ use Rattle.stretch.proofs.Painting.{fills, repeats}
 none_of : (i at count : ℕ) → (ltb i at || leb (at + count) i) ≡ true → (k : ℕ) → k < count → i ≡ at + k → ⊥
 none_of i at count t k h e = true_false (sym (rw (le-ltb i at (omega arith), lt-leb (at + count) i (omega arith)) at t))
 
-module _ {b : Block} {s : Stretch} {p : Places} (mem : List ℕ) (g : good_length (length mem) ≡ true) (f : Flat (length mem) b s) (l : Lies (length mem) b s p) where
+module _ {b : Block} {s : Stretch} {p : Places} (mem : List ℕ) (f : Flat (length mem) b s) (l : Lies (length mem) b s p) where
   there : (b.andmask ≡ 0 → ⊥) → place (length mem) p.from ≡ place (length mem) s.from
-  there z = ap (place (length mem)) (l.from z) ∙ place_place (length mem) g s.from
+  there z = ap (place (length mem)) (l.from z) ∙ place_place (length mem) l.within.good s.from
 
   -- what a loop makes by places, with sources so far apart, is what the stretch does
   covers : (along : ℕ) → ((b.andmask ≡ 0 → ⊥) → along ≡ s.along) → {mem' : List ℕ} {accesses : ℕ} → Makes b along 1 p.count p.from p.at mem mem' accesses → Covers b s mem mem' accesses
   covers along a {mem'} {accesses} e = by_test (eqb b.andmask 0) refl
     where
       here : place (length mem) p.at ≡ place (length mem) s.to
-      here = ap (place (length mem)) l.at ∙ place_place (length mem) g s.to
+      here = ap (place (length mem)) l.at ∙ place_place (length mem) l.within.good s.to
 
       on : (from : ℕ) → Makes b s.along 1 p.count from p.at mem mem' accesses → place (length mem) from ≡ place (length mem) s.from → Covers b s mem mem' accesses
       on from m q note =
           m note
-          ∙ by_places b 1 s.along p.count from s.from p.at s.to (trace mem note 0) g q here
+          ∙ by_places b 1 s.along p.count from s.from p.at s.to (trace mem note 0) l.within.good q here
           ∙ ap (λ (n : ℕ). strokes b s.along 1 n s.from s.to (trace mem note 0)) l.count
           ∙ ap (λ (x : ℕ). strokes b s.along x s.count s.from s.to (trace mem note 0)) (sym (one_step b s.along s.step f.level))
 
@@ -54,7 +54,7 @@ module _ {b : Block} {s : Stretch} {p : Places} (mem : List ℕ) (g : good_lengt
     pub by_fill : b.andmask ≡ 0 → {mem' : List ℕ} → mem' ≡ painted b.xormask mem p.at p.count → Covers b s mem mem' p.count
     by_fill z e =
         covers 0 (λ n. absurd (n z))
-        (λ note. ap (λ (x : List ℕ). trace x note p.count) e ∙ ap (trace _ note) (sym (zero-add p.count)) ∙ fills b m z 0 p.count mem p.from p.at note 0 g l.within.at_in)
+        (λ note. ap (λ (x : List ℕ). trace x note p.count) e ∙ ap (trace _ note) (sym (zero-add p.count)) ∙ fills b m z 0 p.count mem p.from p.at note 0 l.within.good l.within.at_in)
 
     pub by_copy : s.along ≡ 1 → {mem' : List ℕ} → Makes b 1 1 p.count p.from p.at mem mem' (2 * p.count) → Covers b s mem mem' (2 * p.count)
     by_copy a e = covers 1 (λ _. sym a) e
@@ -68,7 +68,7 @@ module _ {b : Block} {s : Stretch} {p : Places} (mem : List ℕ) (g : good_lengt
         (λ note.
         ap (λ (x : List ℕ). trace x note (2 * p.count)) e
         ∙ ap (trace _ note) (sym (zero-add (2 * p.count)))
-        ∙ repeats b m z p.count mem p.from p.at note 0 _ g l.within.at_in (ap (λ (i : ℕ). bit_xor (bit_and (get_or mem i 0) b.andmask) b.xormask) own) (λ k h q. none_of p.from p.at p.count t k h (sym own ∙ q)))
+        ∙ repeats b m z p.count mem p.from p.at note 0 _ l.within.good l.within.at_in (ap (λ (i : ℕ). bit_xor (bit_and (get_or mem i 0) b.andmask) b.xormask) own) (λ k h q. none_of p.from p.at p.count t k h (sym own ∙ q)))
 
   -- modes 1 to 6
   pub by_mix : (mode_of b ≡ 0 → ⊥) → {mem' : List ℕ} {accesses : ℕ} → Makes b 1 1 p.count p.from p.at mem mem' accesses → Covers b s mem mem' accesses

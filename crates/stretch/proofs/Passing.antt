@@ -53,9 +53,9 @@ module _ {b : Block} {p : Places} {first : List ℕ} where
         let on : (x : ℕ) → x + (k + 1) ≡ x + k + 1 = λ x. omega arith in
         record { left = λ note. rw (on p.from, on p.at) (left_on (l.left note) h (e note)) }
 
-    module _ (g : good_length (length first) ≡ true) (long : length mem ≡ length first) (w : Within (length first) p) (h : k < p.count) where
+    module _ (long : length mem ≡ length first) (w : Within (length first) p) (h : k < p.count) where
       board : good_length (length mem) ≡ true
-      board = rw long g
+      board = rw long w.good
 
       -- the places of the byte and of its source
       here : place (length mem) (p.at + k) ≡ p.at + k

@@ -22,8 +22,9 @@ pub record Flat (L : ℕ) (b : Block) (s : Stretch) : Type 0 where
   pub to_in : Inside L s.to s.count
   pub from_in : (b.andmask ≡ 0 → ⊥) → Inside L s.from s.count
 
--- its places: bytes and sources are inside memory,
+-- its places: bytes and sources are inside a board's memory,
 pub record Within (L : ℕ) (p : Places) : Type 0 where
+  pub good : good_length L ≡ true
   pub at_in : p.at + p.count ≤ L
   pub from_in : p.from + p.count ≤ L
 

@@ -107,7 +107,7 @@ impl Places {
 
     // One value in each byte.
     fn paint(self, mem: &mut [u8], value: u8)
-        requires { self.at + self.count ≤ length mem.old }
+        requires { Within (length mem.old) self }
         ensures { mem.new ≡ painted value mem.old self.at self.count }
     {
         for k in 0..self.count as usize {
@@ -117,7 +117,6 @@ impl Places {
 
     // Mode 0: the sources are copied, whether they overlap the bytes or not.
     fn copy(self, block: Block, mem: &mut [u8])
-        requires good { good_length (length mem.old) ≡ true }
         requires within { Within (length mem.old) self }
         requires mode { mode_of block ≡ 0 }
         requires read { block.andmask ≡ 0 → ⊥ }
@@ -131,7 +130,6 @@ impl Places {
     // Modes 1 to 6, where no collision can be seen. Every byte is written, if only as it was; those that the mode writes
     // cost the same each.
     fn mix<const MODE: u8>(self, block: Block, mem: &mut [u8]) -> u32
-        requires good { good_length (length mem.old) ≡ true }
         requires within { Within (length mem.old) self }
         requires mode { mode_of block ≡ MODE }
         requires under { MODE < 7 }
@@ -150,7 +148,6 @@ impl Places {
 
     // The same, with the mode as a constant, so that the compiler leaves the others out of each loop.
     fn blend(self, block: Block, mem: &mut [u8]) -> u32
-        requires good { good_length (length mem.old) ≡ true }
         requires within { Within (length mem.old) self }
         requires some { mode_of block ≡ 0 → ⊥ }
         requires under { mode_of block < 7 }
@@ -177,7 +174,6 @@ impl Places {
 
     // Mode 0: a fill, a copy, or one byte copied many times. Where that byte is written on the way it is read each time.
     fn replace(self, block: Block, mem: &mut [u8], stretch: Stretch) -> u32
-        requires good { good_length (length mem.old) ≡ true }
         requires flat { Flat (length mem.old) block stretch }
         requires lies { Lies (length mem.old) block stretch self }
         requires mode { mode_of block ≡ 0 }

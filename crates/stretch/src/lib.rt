@@ -38,6 +38,8 @@ fn index(n: usize, address: usize) -> usize
     address & (n - 1)
 }
 
+// A good length is asked for each time: a struct of memory and this fact would say each time that its memory is the same.
+
 // The byte at an address.
 fn cell(mem: &[u8], address: usize) -> u8
     requires { good_length (length mem.now) ≡ true }

@@ -13,4 +13,4 @@ pub returns-in-7 : goal.returns-in-7
 returns-in-7 c = by_idle _ _ _ (sym c.mode.ensures ∙ c.in-7.is)
 
 pub returns-in_default : goal.returns-in_default
-returns-in_default c = by_mix _ c.requires.good c.requires.flat c.of-places.ensures (λ e. omega (arith, e, c.mode.ensures)) c.blend.ensures
+returns-in_default c = by_mix _ c.requires.flat c.of-places.ensures (λ e. omega (arith, e, c.mode.ensures)) c.blend.ensures

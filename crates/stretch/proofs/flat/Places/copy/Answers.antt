@@ -8,7 +8,7 @@ pub loop-k-preserved : goal.loop-k-preserved
 loop-k-preserved c =
     let p = c.requires in
     let l = c.loop-k in
-    rw c.masked.ensures (passed_copy l.invariant p.good l.auto.mem p.within c.loop-k-test.true p.mode p.read refl)
+    rw c.masked.ensures (passed_copy l.invariant l.auto.mem p.within c.loop-k-test.true p.mode p.read refl)
 
 pub returns : goal.returns
 returns c =

@@ -12,7 +12,7 @@ loop-k-preserved g c =
     let l = c.loop-k in
     record {
       few = omega (arith, l.invariant.few, bool_small c.writes.result);
-      passed = rw (c.after.ensures, c.writes.ensures, c.masked-s.ensures) (passed_mix l.invariant.passed p.good l.auto.mem p.within c.loop-k-test.true _ p.mode p.under p.clear l.wrote refl);
+      passed = rw (c.after.ensures, c.writes.ensures, c.masked-s.ensures) (passed_mix l.invariant.passed l.auto.mem p.within c.loop-k-test.true _ p.mode p.under p.clear l.wrote refl);
     }
 
 pub returns : goal.returns
