@@ -1,5 +1,4 @@
 -- Laws of the mode table.
 pub mod Laws
 mod Once
-mod Rest
 mod Ranges

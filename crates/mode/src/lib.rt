@@ -6,7 +6,7 @@ ghost use Rattle.mode.specs.Mode.{over_nibble, over, value_in, writes_in, cost_i
 
 // What one destination byte comes to: whether it is written and with what, the collision code after it,
 // and the accesses to the destination.
-#[derive(Clone, Copy)]
+#[derive(Clone, Copy, PartialEq, Eq, Default)]
 pub struct Stroke {
     pub written: bool,
     pub value: u8,
@@ -15,12 +15,14 @@ pub struct Stroke {
 }
 
 // "each nibble of s that is not 0 replaces that of d"
+#[tactic(auto, unfolding(crate::specs::Mode::over_nibble))]
 fn over_nibble(s: u8, d: u8) -> u8
     ensures { result ≡ over_nibble s d }
 {
     if s == 0 { d } else { s }
 }
 
+#[tactic(auto, using(crate::proofs::Laws::over_high, crate::proofs::Laws::over_low), unfolding(crate::specs::Mode::over))]
 fn over_byte(s: u8, d: u8) -> u8
     ensures { result ≡ over s d }
 {
@@ -28,12 +30,12 @@ fn over_byte(s: u8, d: u8) -> u8
 }
 
 // The columns of the mode table. Mode 7 does nothing.
+#[tactic(auto, unfolding(crate::specs::Mode::value_in))]
 pub fn value(mode: u8, s: u8, d: u8) -> u8
     ensures { result ≡ value_in mode s d }
 {
     match mode {
-        0 => s,
-        1 => s,
+        0 | 1 => s,
         2 => ((d as u16 + s as u16) % 256) as u8,
         3 => d | s,
         4 => d & s,
@@ -43,43 +45,38 @@ pub fn value(mode: u8, s: u8, d: u8) -> u8
     }
 }
 
+#[tactic(auto, unfolding(crate::specs::Mode::writes_in))]
 pub fn writes(mode: u8, s: u8) -> bool
     ensures { result ≡ writes_in mode s }
 {
     match mode {
-        0 => true,
-        1 => s != 0,
-        2 => s != 0,
-        3 => s != 0,
-        4 => true,
-        5 => true,
-        6 => s != 0,
+        0 | 4 | 5 => true,
+        1 | 2 | 3 | 6 => s != 0,
         _ => false,
     }
 }
 
 // Mode 1 reads the destination only where a collision can be seen.
+#[tactic(auto, unfolding(crate::specs::Mode::cost_in))]
 fn cost_1(mask: u8) -> u8
     ensures { result ≡ cost_in 1 mask }
 {
     if mask == 0 { 1 } else { 2 }
 }
 
+#[tactic(auto, unfolding(crate::specs::Mode::cost_in))]
 pub fn cost(mode: u8, mask: u8) -> u8
     ensures { result ≡ cost_in mode mask }
 {
     match mode {
         0 => 1,
         1 => cost_1(mask),
-        2 => 2,
-        3 => 2,
-        4 => 2,
-        5 => 2,
-        6 => 2,
+        2..=6 => 2,
         _ => 0,
     }
 }
 
+#[tactic(auto, unfolding(crate::specs::Mode::accesses_in))]
 fn accesses(mode: u8, mask: u8, s: u8) -> u8
     ensures { result ≡ accesses_in mode mask s }
 {
@@ -144,6 +141,7 @@ fn hit(colours: u8, mask: u8, s: u8, d: u8) -> bool
     }
 }
 
+#[tactic(auto, unfolding(crate::specs::Mode::code_by))]
 fn code_by(colours: u8, mask: u8, s: u8, d: u8, code: u8) -> u8
     requires { (colours ≡ 32) ⊎ ((colours ≡ 2) × (d < 16)) }
     ensures { result ≡ code_by colours mask s d code }
@@ -151,32 +149,28 @@ fn code_by(colours: u8, mask: u8, s: u8, d: u8, code: u8) -> u8
     if hit(colours, mask, s, d) { d } else { code }
 }
 
+#[tactic(auto, using(crate::proofs::Laws::code_high, crate::proofs::Laws::code_low), unfolding(crate::specs::Mode::code_nibbles))]
 fn code_nibbles(mask: u8, s: u8, d: u8, code: u8) -> u8
     ensures { result ≡ code_nibbles mask s d code }
 {
     code_by(2, mask, s / 16, d / 16, code / 16) * 16 + code_by(2, mask, s % 16, d % 16, code % 16)
 }
 
-// An arm for each mode, as in the columns above, though five are equal: with the five joined a byte in mode 1 was
-// measured to take a fifth longer.
-// The collision code after a byte. Modes 1 to 5 have one rule and an arm each: with one arm for the five a byte in mode 1 took
-// a fifth longer.
+// The collision code after a byte: modes 1 to 5 have one rule.
+#[tactic(auto, unfolding(crate::specs::Mode::code_in, crate::specs::Mode::code_byte))]
 fn code_in(mode: u8, mask: u8, s: u8, d: u8, code: u8) -> u8
     ensures { result ≡ code_in mode mask s d code }
 {
     match mode {
         0 => code,
-        1 => code_by(32, mask, s, d, code),
-        2 => code_by(32, mask, s, d, code),
-        3 => code_by(32, mask, s, d, code),
-        4 => code_by(32, mask, s, d, code),
-        5 => code_by(32, mask, s, d, code),
+        1..=5 => code_by(32, mask, s, d, code),
         6 => code_nibbles(mask, s, d, code),
         _ => code,
     }
 }
 
 // One destination byte: s is the source byte after both masks, d the destination byte before.
+#[tactic(auto, unfolding(crate::specs::Mode::stroke_of))]
 pub fn stroke_of(mode: u8, mask: u8, s: u8, d: u8, code: u8) -> Stroke
     ensures { result ≡ stroke_of mode mask s d code }
 {

@@ -1,35 +1,16 @@
 -- How many bytes come before a wrap: they, and their sources where they are read, end inside memory. Assumes nothing.
-use mathlib.Core.Path.{◌≡◌, refl, sym, ◌∙◌}
-use mathlib.Core.Bool.{true, false, ◌&&◌}
+use mathlib.Core.Path.{◌≡◌}
+use mathlib.Core.Bool.{true, ◌&&◌}
 use Prim.Native.Nat.{ℕ, ◌-◌, ◌≤◌, ◌<◌}
 use native.Mathlib.Omega.{arith}
 use lib.Dec.{eqb, ltb}
-use borrow.Author.Tests.{ltb-true, ltb-false, lt-ltb, le-ltb, eqb-true, ne_eqb}
+use borrow.Author.Tests.{ltb-true, ltb-false, eqb-true}
 use Rattle.laws.proofs.Choice.{by_cond, both}
 use Rattle.vram.specs.Memory.{good_length, place}
 use Rattle.block.specs.declared.Block.{Block}
 use Rattle.stretch.specs.declared.Stretch.{Stretch}
 use Rattle.stretch.specs.Flat.{level_of, Inside, Flat, until_end, before_wrap, flat_count, first_of}
 use Rattle.stretch.proofs.Places.{place_in}
-
--- as the program tests it, i being the place
-module _ (L address count i : ℕ) (e : i ≡ place L address) where
-  pub until_less : L - i < count → L - i ≡ until_end L address count
-  unfolding until_end
-  until_less h = rw (sym e, lt-ltb (L - i) count h)
-
-  pub until_all : count ≤ L - i → count ≡ until_end L address count
-  unfolding until_end
-  until_all h = rw (sym e, le-ltb (L - i) count h)
-
-module _ (L : ℕ) (b : Block) (s : Stretch) {count : ℕ} (e : count ≡ until_end L s.to s.count) where
-  pub wrap_unread : b.andmask ≡ 0 → count ≡ before_wrap L b s
-  unfolding before_wrap
-  wrap_unread z = rw z e
-
-  pub wrap_read : (b.andmask ≡ 0 → ⊥) → {r : ℕ} → r ≡ until_end L s.from count → r ≡ before_wrap L b s
-  unfolding before_wrap
-  wrap_read z f = f ∙ rw (sym e, ne_eqb b.andmask 0 z) refl
 
 -- they end inside memory, and some are left of some
 pub record Some (L address most r : ℕ) : Type 0 where
@@ -61,24 +42,13 @@ module _ (L : ℕ) (g : good_length L ≡ true) where
         (λ t. (here, λ f. absurd (f (eqb-true b.andmask 0 t))))
         (λ t. (record { some = λ h. there.some (here.some h); few = omega (arith, here.few, there.few); inside = omega (arith, here.inside, there.few) }, λ _. there.inside))
 
-    -- a part of a stretch is no longer than that, and flat where the steps are
-    pub part_few : {count : ℕ} → count ≡ before_wrap L b s → count ≤ s.count
-    part_few e = rw e before_wrap_some.0.few
-
+    -- and a part of a stretch is flat where the steps are
     pub part_flat : level_of b s.along s.step ≡ true → (count : ℕ) → count ≡ before_wrap L b s → Flat L b (first_of s count)
     part_flat l count e = record { level = l; to_in = rw e before_wrap_some.0.inside; from_in = λ z. rw e (before_wrap_some.1 z) }
 
 -- the number of bytes drawn
 module _ (L : ℕ) (b : Block) (s : Stretch) where
-  pub none_drawn : (good_length L && level_of b s.along s.step) ≡ false → 0 ≡ flat_count L b s
-  unfolding flat_count
-  none_drawn t = rw t
-
   module _ (t : (good_length L && level_of b s.along s.step) ≡ true) where
-    pub part_drawn : {count : ℕ} → count ≡ before_wrap L b s → count ≡ flat_count L b s
-    unfolding flat_count
-    part_drawn e = rw t e
-
     -- some of some
     pub some_drawn : 0 < s.count → 0 < flat_count L b s
     unfolding flat_count

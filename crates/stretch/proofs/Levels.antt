@@ -1,6 +1,6 @@
 -- What the steps of a flat stretch are. Assumes nothing.
 use mathlib.Core.Path.{◌≡◌, ◌∙◌}
-use mathlib.Core.Bool.{Bool, true, false, ◌&&◌, ◌||◌}
+use mathlib.Core.Bool.{Bool, true, ◌&&◌, ◌||◌}
 use Prim.Native.Nat.{ℕ, ◌≤◌}
 use lib.Dec.{eqb, leb}
 use borrow.Author.Tests.{eqb-true, leb-true, ne_eqb, eq-eqb}
@@ -10,16 +10,12 @@ use Rattle.block.specs.declared.Block.{Block}
 use Rattle.stretch.specs.Flat.{level_of}
 
 module _ (b : Block) (along step : ℕ) where
-  -- as the program tests it
-  pub level_none : (step ≡ 1 → ⊥) → false ≡ level_of b along step
-  unfolding level_of
-  level_none n = rw (ne_eqb step 1 n)
-
-  pub level_0 : step ≡ 1 → mode_of b ≡ 0 → (eqb b.andmask 0 || leb along 1) ≡ level_of b along step
+  -- the tests that are left
+  level_0 : step ≡ 1 → mode_of b ≡ 0 → (eqb b.andmask 0 || leb along 1) ≡ level_of b along step
   unfolding level_of
   level_0 e m = rw (eq-eqb step 1 e, eq-eqb (mode_of b) 0 m)
 
-  pub level_mixed : step ≡ 1 → (mode_of b ≡ 0 → ⊥) → (eqb b.hitmask 0 && (eqb b.andmask 0 || eqb along 1)) ≡ level_of b along step
+  level_mixed : step ≡ 1 → (mode_of b ≡ 0 → ⊥) → (eqb b.hitmask 0 && (eqb b.andmask 0 || eqb along 1)) ≡ level_of b along step
   unfolding level_of
   level_mixed e m = rw (eq-eqb step 1 e, ne_eqb (mode_of b) 0 m)
 

@@ -1,7 +1,6 @@
 -- Laws of a stretch of bytes.
 pub mod Strokes
 mod Single
-mod Walking
 pub mod Places
 mod Levels
 mod Painting

@@ -13,15 +13,12 @@ use Rattle.block.specs.declared.Block.{Block}
 use Rattle.block.specs.declared.Note.{Note}
 use Rattle.stretch.specs.Stretch.{trace, strokes}
 use Rattle.stretch.specs.Flat.{painted}
-use Rattle.stretch.proofs.Strokes.{less, none, all}
+use Rattle.stretch.proofs.Strokes.{less, none}
 use Rattle.stretch.proofs.Single.{masked, fill_is, copy_is}
 use Rattle.stretch.proofs.Places.{stands}
 
--- the loop: its start, one turn and its end
+-- the loop: one turn and its end
 module _ (v at count : ℕ) (mem : List ℕ) where
-  pub paint_start : painted v mem (at + 0) (count - 0) ≡ painted v mem at count
-  paint_start = rw (add-zero at, all count)
-
   pub paint_on : (k : ℕ) → k < count → painted v (set mem (at + k) v) (at + (k + 1)) (count - (k + 1)) ≡ painted v mem (at + k) (count - k)
   unfolding painted
   paint_on k h =

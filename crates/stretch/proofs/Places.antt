@@ -9,6 +9,7 @@ use Rattle.vram.specs.Memory.{good_length, place}
 use Rattle.vram.proofs.Length.{good, wrap, own_place}
 use Rattle.block.specs.Byte.{reads_source, source_by, stroke_by, written_by, struck_by}
 use Rattle.block.specs.declared.Block.{Block}
+use Rattle.stretch.specs.declared.Stretch.{Stretch}
 use Rattle.stretch.specs.Stretch.{Trace, struck, strokes}
 use Rattle.stretch.proofs.Strokes.{struck_length}
 
@@ -42,6 +43,11 @@ module _ (b : Block) (from from' to to' : ℕ) (d : Trace) where
   unfolding struck struck_by stroke_by written_by source_by
   unread_byte r = rw r
 
+-- with an AND mask of 0 none is read
+pub unread_0 : (b : Block) → b.andmask ≡ 0 → reads_source b ≡ false
+unfolding reads_source
+unread_0 b z = rw z
+
 module _ (b : Block) (step : ℕ) where
   -- a stretch, by the same places
   pub by_places : (along n from from' to to' : ℕ) (d : Trace) → good_length (length d.mem) ≡ true
@@ -61,3 +67,7 @@ module _ (b : Block) (step : ℕ) where
   unread r along along' (suc n) from from' to d =
       unread r along along' n (from + along) (from' + along') (to + step) (struck b from to d)
       ∙ ap (strokes b along' step n (from' + along') (to + step)) (unread_byte b from from' to to d r)
+
+-- a stretch whose sources are all at 0
+abbrev pub sourceless : Stretch → Stretch
+sourceless s = record { from = 0; along = 0; to = s.to; step = s.step; count = s.count }

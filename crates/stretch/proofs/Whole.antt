@@ -1,6 +1,5 @@
 -- A whole stretch, by memory's length and the mode. Assumes nothing.
 use mathlib.Core.Path.{◌≡◌, refl, sym, ap, ◌∙◌}
-use mathlib.Core.Bool.{true, false}
 use mathlib.Core.List.{List}
 use Prim.Native.Nat.{ℕ, zero, suc, ◌+◌}
 use lib.ListN.{length}
@@ -10,7 +9,7 @@ use Rattle.block.specs.Block.{mode_of}
 use Rattle.block.specs.declared.Block.{Block}
 use Rattle.block.specs.declared.Note.{Note}
 use Rattle.stretch.specs.declared.Stretch.{Stretch}
-use Rattle.stretch.specs.Stretch.{Trace, trace, strokes, trace_of}
+use Rattle.stretch.specs.Stretch.{Trace, trace, strokes, Covers, trace_of}
 use Rattle.stretch.specs.Flat.{first_of}
 use Rattle.stretch.proofs.Single.{still}
 
@@ -22,19 +21,8 @@ idle b along step (suc n) from to mem note made m =
     ap (λ (d : Trace). strokes b along step n (from + along) (to + step) d) (still b mem from to note made m)
     ∙ idle b along step n (from + along) (to + step) mem note made m
 
-module _ (b : Block) (s : Stretch) (mem : List ℕ) (note : Note) where
-  -- a memory of no board's length
-  pub no_board : good_length (length mem) ≡ false → trace mem note 0 ≡ trace_of b s mem note
-  unfolding trace_of
-  no_board h = rw h
-
-  -- one of a board's: what a loop promises is the whole
-  pub by_loop : good_length (length mem) ≡ true → (d : Trace) → d ≡ strokes b s.along s.step s.count s.from s.to (trace mem note 0) → d ≡ trace_of b s mem note
-  unfolding trace_of
-  by_loop h d e = rw h e
-
-  pub by_none : good_length (length mem) ≡ true → mode_of b ≡ 7 → trace mem note 0 ≡ trace_of b s mem note
-  by_none h m = by_loop h (trace mem note 0) (sym (idle b s.along s.step s.count s.from s.to mem note 0 m))
+pub by_idle : (b : Block) (s : Stretch) (mem : List ℕ) → mode_of b ≡ 7 → Covers b s mem mem 0
+by_idle b s mem m note = sym (idle b s.along s.step s.count s.from s.to mem note 0 m)
 
 -- none of its bytes
 pub by_nothing : (b : Block) (s : Stretch) (mem : List ℕ) (note : Note) → trace mem note 0 ≡ trace_of b (first_of s 0) mem note

@@ -3,9 +3,8 @@ use Rattle.std.specs.Prelude.{◌≡◌, Bool, true, cond, ◌&&◌, ◌||◌, L
 use Rattle.vram.specs.Memory.{good_length, place}
 use Rattle.block.specs.Block.{mode_of}
 use Rattle.block.specs.declared.Block.{Block}
-use Rattle.block.specs.declared.Note.{Note}
 use Rattle.stretch.specs.declared.Stretch.{Stretch}
-use Rattle.stretch.specs.Stretch.{trace, strokes}
+use Rattle.stretch.specs.declared.flat.Places.{Places}
 
 -- the steps: 1, and 1 of the sources where they are read, or 0 in mode 0, where one byte is copied many times; and no collision can be seen
 unfoldable pub level_of : Block → ℕ → ℕ → Bool
@@ -22,6 +21,19 @@ pub record Flat (L : ℕ) (b : Block) (s : Stretch) : Type 0 where
   pub level : level_of b s.along s.step ≡ true
   pub to_in : Inside L s.to s.count
   pub from_in : (b.andmask ≡ 0 → ⊥) → Inside L s.from s.count
+
+-- its places: bytes and sources are inside a board's memory,
+pub record Within (L : ℕ) (p : Places) : Type 0 where
+  pub good : good_length L ≡ true
+  pub at_in : p.at + p.count ≤ L
+  pub from_in : p.from + p.count ≤ L
+
+-- and begin where the stretch says, the sources where they are read
+pub record Lies (L : ℕ) (b : Block) (s : Stretch) (p : Places) : Type 0 where
+  pub count : p.count ≡ s.count
+  pub at : p.at ≡ place L s.to
+  pub from : (b.andmask ≡ 0 → ⊥) → p.from ≡ place L s.from
+  pub within : Within L p
 
 -- how many of so many bytes come before memory's end,
 unfoldable pub until_end : ℕ → ℕ → ℕ → ℕ
@@ -40,11 +52,6 @@ flat_count L b s = cond (good_length L && level_of b s.along s.step) (before_wra
 -- a stretch's first bytes
 abbrev pub first_of : Stretch → ℕ → Stretch
 first_of s count = record { from = s.from; along = s.along; to = s.to; step = s.step; count = count }
-
--- what so many strokes make of memory, and their accesses, whatever the note is: it stays
-abbrev pub Makes : Block → ℕ → ℕ → ℕ → ℕ → ℕ → List ℕ → List ℕ → ℕ → Type 0
-Makes b along step count from to mem mem' accesses =
-    (note : Note) → trace mem' note accesses ≡ strokes b along step count from to (trace mem note 0)
 
 -- one value in n places from at on
 unfoldable pub painted : ℕ → List ℕ → ℕ → ℕ → List ℕ

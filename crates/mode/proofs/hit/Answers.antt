@@ -15,9 +15,6 @@ returns-then-mask-eq0 c = rw c.if-mask-eq0.true (sym (none_met _ _ _))
 pub returns-then-mask-eq255 : goal.returns-then-mask-eq255
 returns-then-mask-eq255 c = rw c.if-mask-eq255.true (sym (all_met _ _ _ c.if-s-eq0.false (eight _ _ (omega arith) c.requires)))
 
-pub collision_hr-requires : goal.collision_hr-requires
-collision_hr-requires c = (paired _ _ c.if-colours-eq32.false c.requires).1
-
 pub returns-then-colours-eq32 : goal.returns-then-colours-eq32
 returns-then-colours-eq32 c = rw c.if-colours-eq32.true (c.collision_sr.ensures ∙ sym (met _ _ _ _ c.if-s-eq0.false))
 

@@ -1,10 +1,7 @@
 -- `stretch::index` meets its contract: a board's length less one is a mask, and no wrap at 524,288 is needed first. Assumes nothing.
 use mathlib.Core.Path.{sym, ◌∙◌}
-use Rattle.vram.proofs.Length.{good, wrap, one_some, mask_is, mask_under}
+use Rattle.vram.proofs.Length.{good, wrap, mask_is, mask_under}
 use Rattle.stretch.proofs.index.Goals as goal
-
-pub overflow_sub-result : goal.overflow_sub-result
-overflow_sub-result c = one_some _ (good _ c.requires).one
 
 pub returns : goal.returns
 returns c =
