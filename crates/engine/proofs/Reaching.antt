@@ -2,7 +2,7 @@
 use mathlib.Core.Path.{◌≡◌, refl, sym, ap, subst, ◌∙◌}
 use mathlib.Core.Bool.{true, false}
 use mathlib.Core.Logic.{inl, inr, ⊎_elim}
-use Prim.Native.Nat.{ℕ, ◌+◌, ◌-◌, ◌/◌, ◌%◌, ◌≤◌, ◌<◌}
+use Prim.Native.Nat.{ℕ, ◌+◌, ◌-◌, ◌/◌, ◌%◌, ◌≤◌, ◌<◌, min}
 use native.Mathlib.Nat.{mod-lt, mod-one, div-one}
 use native.Mathlib.Omega.{arith}
 use lib.Dec.{eqb}
@@ -15,7 +15,7 @@ use Rattle.block.proofs.Sizes.{columns_small, rows_small, pattern_pos}
 use Rattle.blitter.proofs.Sound.{Inside}
 use Rattle.engine.specs.declared.Place.{Place}
 use Rattle.engine.specs.Engine.{place_at, Placed, Column, Row, Reach, tall_of, ahead_row, ahead_col, after_row, after_col}
-use Rattle.engine.proofs.Following.{down_is, across_is, sourcerow_is, sourcecol_is}
+use Rattle.engine.proofs.Following.{down_is, across_is, sourcerow_is, sourcecol_is, across_small, sourcerow_small, sourcecol_small}
 
 module _ {b : Block} {p : Place} (q : Placed b p) where
   zoom_x_pos : 0 < zoom_x b
@@ -27,18 +27,10 @@ module _ {b : Block} {p : Place} (q : Placed b p) where
   pub sourcecol_in : p.sourcecol < pattern_of b
   sourcecol_in = rw (sourcecol_is b p q.at) (mod-lt (p.col / zoom_x b) (pattern_pos b))
 
-  module _ {n : ℕ} where
-    pub reach_down : tall_of b ≡ true → n ≡ rows_of b - p.row → (0 < n) × Reach b p.row p.col n
-    reach_down t e = (omega (arith, q.row_in), inl (record { tall = t; left = omega (arith, q.row_in) }))
-
-    module _ (t : tall_of b ≡ false) (some : 0 < n) (left : n ≤ columns_of b - p.col) where
-      pub reach_plain : zoom_x b ≡ 1 → n ≤ pattern_of b - p.sourcecol → (0 < n) × Reach b p.row p.col n
-      reach_plain e h =
-          (some, inr (record { wide = t; left = omega (arith, q.col_in); plain = λ _. omega (arith, sourcecol_is b p q.at, sourcecol_in); zoomed = λ f. absurd (f e) }))
-
-      pub reach_zoomed : (zoom_x b ≡ 1 → ⊥) → n ≤ zoom_x b - p.across → (0 < n) × Reach b p.row p.col n
-      reach_zoomed f h =
-          (some, inr (record { wide = t; left = omega (arith, q.col_in); plain = λ e. absurd (f e); zoomed = λ _. omega (arith, across_is b p q.at, across_in) }))
+  pub reach_plain : tall_of b ≡ false → zoom_x b ≡ 1 → {n : ℕ} → n ≡ min (columns_of b - p.col) (pattern_of b - p.sourcecol) → (0 < n) × Reach b p.row p.col n
+  reach_plain t e {n} m =
+      let least : (0 < n) × (n ≤ columns_of b - p.col) × (n ≤ pattern_of b - p.sourcecol) = (omega (arith, q.col_in, sourcecol_in), omega arith, omega arith) in
+      (least.0, inr (record { wide = t; left = omega (arith, least.1, q.col_in); plain = λ _. omega (arith, least.2, sourcecol_is b p q.at, sourcecol_in); zoomed = λ f. absurd (f e) }))
 
   module _ (k : ℕ) (r : Reach b p.row p.col (k + 1)) where
     as_column : tall_of b ≡ true → Column b p.row (k + 1)
@@ -117,6 +109,26 @@ module _ {b : Block} {p : Place} (q : Placed b p) {count : ℕ} (some : 0 < coun
   behind_row h =
       let far : columns_of b ≤ ahead_col b p.col (count - 1) + 1 = omega (arith, ap (λ (x : Place). x.col) e) in
       rw (e, le-ltb (ahead_col b p.col (count - 1) + 1) (columns_of b) far)
+
+-- a place inside its block is small, and so is what is in reach of it
+pub record Small (p : Place) : Type 0 where
+  pub row_small : p.row < 2048
+  pub col_small : p.col < 4096
+  pub across_small : p.across < 4096
+  pub sourcerow_small : p.sourcerow < 2048
+  pub sourcecol_small : p.sourcecol < 4096
+
+pub placed_small : {b : Block} {p : Place} → b.height < 256 → b.width0 < 256 → Placed b p → Small p
+placed_small {b} {p} h w q =
+    let row = rows_small b h in
+    let col = columns_small b w in
+    record {
+      row_small = omega (arith, q.row_in);
+      col_small = omega (arith, q.col_in);
+      across_small = omega (arith, q.col_in, across_small b p q.at);
+      sourcerow_small = omega (arith, q.row_in, sourcerow_small b p q.at);
+      sourcecol_small = omega (arith, q.col_in, sourcecol_small b p q.at);
+    }
 
 -- no reach is long
 pub reach_small : (b : Block) (row col n : ℕ) → b.height < 256 → b.width0 < 256 → Reach b row col n → n ≤ 4096

@@ -5,4 +5,4 @@ use Rattle.engine.proofs.load.Goals as goal
 
 pub returns : goal.returns
 unfolding load_tick
-returns c = simp (c.block_at-block.ensures, mod-add-mod)
+returns c = simp (c.block_at-blitter.ensures, mod-add-mod)
