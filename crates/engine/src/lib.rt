@@ -93,70 +93,49 @@ impl Place {
     }
 
     // The next column: the same source column, or the next of the pattern, or its first.
-    fn next_col(self, block: Block) -> Place
-        requires { (self ≡ place_at block self.row self.col) × (self.col < 65535) }
-        ensures { result ≡ place_at block self.row (self.col + 1) }
+    fn next_col(&mut self, block: Block)
+        requires { (self.old ≡ place_at block self.old.row self.old.col) × (self.old.col < 65535) }
+        ensures { self.new ≡ place_at block self.old.row (self.old.col + 1) }
     {
-        let col = self.col + 1;
+        self.col += 1;
         if self.across + 1 < block.zoom_x() as u32 {
-            Place {
-                col,
-                across: self.across + 1,
-                ..self
-            }
+            self.across += 1;
         } else if self.sourcecol + 1 < block.pattern_width() as u32 {
-            Place {
-                col,
-                across: 0,
-                sourcecol: self.sourcecol + 1,
-                ..self
-            }
+            self.across = 0;
+            self.sourcecol += 1;
         } else {
-            Place {
-                col,
-                across: 0,
-                sourcecol: 0,
-                ..self
-            }
+            self.across = 0;
+            self.sourcecol = 0;
         }
     }
 
     // The first column of the next row: of the same source row, or of the next.
-    fn next_row(self, block: Block) -> Place
-        requires { (self ≡ place_at block self.row self.col) × (self.row < 65535) }
-        ensures { result ≡ place_at block (self.row + 1) 0 }
+    fn next_row(&mut self, block: Block)
+        requires { (self.old ≡ place_at block self.old.row self.old.col) × (self.old.row < 65535) }
+        ensures { self.new ≡ place_at block (self.old.row + 1) 0 }
     {
-        let first = Place {
-            row: self.row + 1,
-            col: 0,
-            across: 0,
-            sourcecol: 0,
-            ..self
-        };
+        self.row += 1;
+        self.col = 0;
+        self.across = 0;
+        self.sourcecol = 0;
         if self.down + 1 < block.zoom_y() as u32 {
-            Place {
-                down: self.down + 1,
-                ..first
-            }
+            self.down += 1;
         } else {
-            Place {
-                down: 0,
-                sourcerow: self.sourcerow + 1,
-                ..first
-            }
+            self.down = 0;
+            self.sourcerow += 1;
         }
     }
 
     // The place behind so many bytes of a stretch. Behind the block's last byte it is the first of a row that is not there.
-    fn after(self, block: Block, count: u32) -> Place
-        requires { Placed block self × (0 < count) × Reach block self.row self.col count }
-        ensures { result ≡ place_at block (after_row block self.row self.col count) (after_col block self.col count) }
+    fn after(&mut self, block: Block, count: u32)
+        requires { Placed block self.old × (0 < count) × Reach block self.old.row self.old.col count }
+        ensures { self.new ≡ place_at block (after_row block self.old.row self.old.col count) (after_col block self.old.col count) }
     {
-        let last = self.ahead(block, count - 1);
-        if last.col + 1 < block.columns() as u32 {
-            last.next_col(block)
+        self.ahead(block, count - 1);
+        if self.col + 1 < block.columns() as u32 {
+            self.next_col(block);
         } else {
-            last.next_row(block)
+            self.next_row(block);
         }
     }
 
@@ -178,28 +157,19 @@ impl Place {
     }
 
     // The place k bytes on, inside a stretch.
-    fn ahead(self, block: Block, k: u32) -> Place
-        requires { Placed block self × Reach block self.row self.col (k + 1) }
-        ensures { result ≡ place_at block (ahead_row block self.row k) (ahead_col block self.col k) }
+    fn ahead(&mut self, block: Block, k: u32)
+        requires { Placed block self.old × Reach block self.old.row self.old.col (k + 1) }
+        ensures { self.new ≡ place_at block (ahead_row block self.old.row k) (ahead_col block self.old.col k) }
     {
         if tall(block) {
-            Place {
-                row: self.row + k,
-                sourcerow: self.sourcerow + k,
-                ..self
-            }
+            self.row += k;
+            self.sourcerow += k;
         } else if block.zoom_x() == 1 {
-            Place {
-                col: self.col + k,
-                sourcecol: self.sourcecol + k,
-                ..self
-            }
+            self.col += k;
+            self.sourcecol += k;
         } else {
-            Place {
-                col: self.col + k,
-                across: self.across + k,
-                ..self
-            }
+            self.col += k;
+            self.across += k;
         }
     }
 
@@ -290,11 +260,11 @@ impl Sofar {
             note = drawn.note;
             counts.accesses += drawn.accesses;
             counts.ticks += count;
-            place = place.ahead(block, count - 1);
+            place.ahead(block, count - 1);
             if place.col + 1 < columns {
-                place = place.next_col(block);
+                place.next_col(block);
             } else if place.row + 1 < rows {
-                place = place.next_row(block);
+                place.next_row(block);
             } else {
                 self.counts = counts;
                 end(&mut self.blitter, note);
@@ -323,7 +293,7 @@ impl Sofar {
             note = part.note;
             counts.accesses += part.accesses;
             counts.ticks += part.count;
-            place = place.after(block, part.count);
+            place.after(block, part.count);
         }
         self.counts = counts;
         leave(&mut self.blitter, place, note);

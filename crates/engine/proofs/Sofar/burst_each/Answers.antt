@@ -26,24 +26,24 @@ stretch-requires c =
 pub overflow_add-counts : goal.overflow_add-counts
 overflow_add-counts c = stretch_made (turn (goal.at.overflow_add-counts c).After-draw-drawn)
 
-pub ahead-place-requires : goal.ahead-place-requires
-ahead-place-requires c =
-    let t = turn (goal.at.ahead-place-requires c).After-draw-drawn in
+pub ahead-requires : goal.ahead-requires
+ahead-requires c =
+    let t = turn (goal.at.ahead-requires c).After-draw-drawn in
     (placed_in c.loop-counts.invariant.going c.loop-counts.invariant.at, reach_less _ _ _ _ _ (omega (arith, t.some)) t.reach)
 
 pub overflow_add-place : goal.overflow_add-place
 overflow_add-place c =
-    let s = placed_small (omega arith) (omega arith) (last_placed (turn (goal.at.overflow_add-place c).After-draw-drawn) c.ahead-place.ensures) in
+    let s = placed_small (omega arith) (omega arith) (last_placed (turn (goal.at.overflow_add-place c).After-draw-drawn) c.ahead.ensures) in
     record { fits = omega (arith, s.col_small) }
 
 pub loop-counts-preserved-then-place-columns : goal.loop-counts-preserved-then-place-columns
 loop-counts-preserved-then-place-columns c =
     let t = turn (goal.at.loop-counts-preserved-then-place-columns c).After-draw-drawn in
-    record { kept = c.loop-counts.invariant.kept; going = rw c.next_col-place.ensures (burst_col t c.ahead-place.ensures c.columns-columns.ensures c.if-place-columns.true); at = rw c.next_col-place.ensures refl }
+    record { kept = c.loop-counts.invariant.kept; going = rw c.next_col.ensures (burst_col t c.ahead.ensures c.columns-columns.ensures c.if-place-columns.true); at = rw c.next_col.ensures refl }
 
 pub overflow_add-place-else-place-columns : goal.overflow_add-place-else-place-columns
 overflow_add-place-else-place-columns c =
-    let s = placed_small (omega arith) (omega arith) (last_placed (turn (goal.at.overflow_add-place-else-place-columns c).After-draw-drawn) c.ahead-place.ensures) in
+    let s = placed_small (omega arith) (omega arith) (last_placed (turn (goal.at.overflow_add-place-else-place-columns c).After-draw-drawn) c.ahead.ensures) in
     record { fits = omega (arith, s.row_small) }
 
 pub loop-counts-preserved : goal.loop-counts-preserved
@@ -51,15 +51,15 @@ loop-counts-preserved c =
     let t = turn (goal.at.loop-counts-preserved c).After-draw-drawn in
     record {
       kept = c.loop-counts.invariant.kept;
-      going = rw c.next_row-place.ensures (burst_row t c.ahead-place.ensures c.columns-columns.ensures c.rows-rows.ensures c.if-place-columns.false c.if-place-rows.true);
-      at = rw c.next_row-place.ensures refl;
+      going = rw c.next_row.ensures (burst_row t c.ahead.ensures c.columns-columns.ensures c.rows-rows.ensures c.if-place-columns.false c.if-place-rows.true);
+      at = rw c.next_row.ensures refl;
     }
 
 pub returns-else-place-rows : goal.returns-else-place-rows
 returns-else-place-rows c =
     let t = turn (goal.at.returns-else-place-rows c).After-draw-drawn in
     rw (c.end.ensures, c.loop-counts.invariant.kept)
-    (burst_end t c.ahead-place.ensures c.columns-columns.ensures c.rows-rows.ensures c.if-place-columns.false c.if-place-rows.false)
+    (burst_end t c.ahead.ensures c.columns-columns.ensures c.rows-rows.ensures c.if-place-columns.false c.if-place-rows.false)
 
 pub leave-requires : goal.leave-requires
 leave-requires c =

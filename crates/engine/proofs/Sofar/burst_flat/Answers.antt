@@ -30,9 +30,9 @@ overflow_add-counts c = stretch_made (turn (goal.at.overflow_add-counts c).After
 pub overflow_add-counts-in-loop-place : goal.overflow_add-counts-in-loop-place
 overflow_add-counts-in-loop-place c = stretch_done (turn (goal.at.overflow_add-counts-in-loop-place c).After-draw-part)
 
-pub after-place-requires : goal.after-place-requires
-after-place-requires c =
-    let t = turn (goal.at.after-place-requires c).After-draw-part in
+pub after-requires : goal.after-requires
+after-requires c =
+    let t = turn (goal.at.after-requires c).After-draw-part in
     (placed_in t.going c.loop-place.invariant.at, t.some, t.reach)
 
 pub loop-place-smaller : goal.loop-place-smaller
@@ -43,7 +43,7 @@ loop-place-smaller c =
 pub loop-place-preserved : goal.loop-place-preserved
 loop-place-preserved c =
     let t = turn (goal.at.loop-place-preserved c).After-draw-part in
-    rw c.after-place.ensures (record { turned = turned_on t; at = refl })
+    rw c.after.ensures (record { turned = turned_on t; at = refl })
 
 pub leave-requires : goal.leave-requires
 leave-requires c =
