@@ -352,18 +352,6 @@ module _ {run : Sofar} {first : List ℕ} {budget : ℕ} {now : Trace} {row col 
       (subst (λ (z : Trace). BurstTo run first budget (sofar (ended run.blitter z.note) (done + (count - 1) + 1) z.accesses) z.mem) all_drawn
       (turn_end last in_budget h k))
 
-  -- the same by the place of the last byte, and by a block's columns and rows as the program has them
-  module _ {l : Place} (e : l ≡ place_at run.blitter.block last_row last_col) where
-    pub last_placed : Placed run.blitter.block l
-    last_placed = rw e (record { at = refl; row_in = last_in.row_in; col_in = last_in.col_in })
-
-    module _ {columns : ℕ} (c : columns ≡ columns_of run.blitter.block) where
-      pub burst_col : l.col + 1 < columns → Now sum l.row (l.col + 1) (done + count)
-      burst_col h = rw e (stretch_col (omega (arith, ap (λ (p : Place). p.col) e)))
-
-      module _ {rows : ℕ} (r : rows ≡ rows_of run.blitter.block) (h : columns ≤ l.col + 1) where
-        pub burst_row : l.row + 1 < rows → Now sum (l.row + 1) 0 (done + count)
-        burst_row k = rw e (stretch_row (omega (arith, ap (λ (p : Place). p.col) e)) (omega (arith, ap (λ (p : Place). p.row) e)))
-
-        pub burst_end : rows ≤ l.row + 1 → BurstTo run first budget (sofar (ended run.blitter d.note) (done + count) (now.accesses + d.accesses)) d.mem
-        burst_end k = stretch_end (omega (arith, ap (λ (p : Place). p.col) e)) (omega (arith, ap (λ (p : Place). p.row) e))
+  -- the place of its last byte
+  pub last_placed : {l : Place} → l ≡ place_at run.blitter.block last_row last_col → Placed run.blitter.block l
+  last_placed e = rw e (record { at = refl; row_in = last_in.row_in; col_in = last_in.col_in })

@@ -29,15 +29,6 @@ pub record Turned (run : Sofar) (first : List ℕ) (budget : ℕ) (now : Trace) 
   pub col_in : col < columns_of run.blitter.block
 
 module _ {run : Sofar} {first : List ℕ} {budget : ℕ} where
-  pub turned_start : BurstFrom run first budget → Turned run first budget (trace first run.blitter.note run.counts.accesses) run.blitter.row run.blitter.col run.counts.ticks
-  turned_start f =
-      record {
-        going = λ _. burst_start f;
-        ending = λ h. absurd (omega (arith, f.row));
-        row_in = omega (arith, f.row);
-        col_in = f.col;
-      }
-
   -- the budget is used, or the block has ended
   pub turned_left : {now : Trace} {row col done rows : ℕ} → Turned run first budget now row col done → rows ≡ rows_of run.blitter.block
       → (ltb row rows && ltb done budget) ≡ false → BurstTo run first budget (sofar (left_at run.blitter row col now.note) done now.accesses) now.mem

@@ -27,17 +27,10 @@ pub record Going (start : Blitter) (first : List ℕ) (budget : ℕ) (run : Sofa
   pub sound : sound_blitter run.blitter ≡ true
   pub same : run_for (budget - run.counts.ticks) (so_far run mem) ≡ run_for budget (begun start first)
 
-whole_left : (budget : ℕ) → budget - 0 ≡ budget
-whole_left budget = omega arith
-
 none_left : (budget ticks : ℕ) → budget ≤ ticks → 0 ≡ budget - ticks
 none_left budget ticks h = omega arith
 
 module _ {start : Blitter} {first : List ℕ} {budget : ℕ} where
-  pub going_start : good_length (length first) ≡ true → sound_blitter start ≡ true → budget ≤ 1000000 → Going start first budget (sofar start 0 0) first
-  going_start g s h =
-      record { board = g; small = h; long = refl; within = omega arith; counted = omega arith; sound = s; same = ap (λ (k : ℕ). run_for k (begun start first)) (whole_left budget) }
-
   module _ {run : Sofar} {mem : List ℕ} (g : Going start first budget run mem) where
     -- the budget is used
     pub going_used : budget ≤ run.counts.ticks → so_far run mem ≡ run_for budget (begun start first)
@@ -81,16 +74,3 @@ module _ {start : Blitter} {first : List ℕ} {budget : ℕ} where
             small = g.small;
             counted = g.counted;
           }
-
-    -- and goes on from where it ends
-    pub going_burst : (after : Sofar) (mem' : List ℕ) → BurstTo run mem budget after mem' → Going start first budget after mem'
-    going_burst after mem' to =
-        record {
-          board = g.board;
-          small = g.small;
-          long = to.long ∙ g.long;
-          within = to.within;
-          counted = to.counted;
-          sound = to.sound;
-          same = to.same ∙ g.same;
-        }

@@ -21,9 +21,6 @@ module _ {b : Block} {p : Place} (q : Placed b p) where
   zoom_x_pos : 0 < zoom_x b
   zoom_x_pos = omega arith
 
-  pub across_in : p.across < zoom_x b
-  across_in = rw (across_is b p q.at) (mod-lt p.col zoom_x_pos)
-
   pub sourcecol_in : p.sourcecol < pattern_of b
   sourcecol_in = rw (sourcecol_is b p q.at) (mod-lt (p.col / zoom_x b) (pattern_pos b))
 
@@ -39,29 +36,13 @@ module _ {b : Block} {p : Place} (q : Placed b p) where
     as_row : tall_of b ≡ false → Row b p.col (k + 1)
     as_row f = ⊎_elim (λ c. true_false (sym c.tall ∙ f)) (λ w. w) r
 
-    -- what is in reach is small
-    pub row_room : tall_of b ≡ true → p.row + k < rows_of b
-    row_room t = omega (arith, (as_column t).left)
-
-    pub col_room : tall_of b ≡ false → p.col + k < columns_of b
-    col_room f = omega (arith, (as_row f).left)
-
-    -- and inside the block
+    -- what is in reach is inside the block
     pub ahead_in : Inside b (ahead_row b p.row k) (ahead_col b p.col k)
     ahead_in =
         ⊎_elim
         (λ c. rw c.tall (record { row_in = omega (arith, c.left); col_in = q.col_in }))
         (λ w. rw w.wide (record { row_in = q.row_in; col_in = omega (arith, w.left) }))
         r
-
-    pub ahead_down : tall_of b ≡ true
-        → record { row = p.row + k; col = p.col; down = p.down; across = p.across; sourcerow = p.sourcerow + k; sourcecol = p.sourcecol }
-        ≡ place_at b (ahead_row b p.row k) (ahead_col b p.col k)
-    ahead_down t =
-        let flat : zoom_y b ≡ 1 = eqb-true (zoom_y b) 1 (both (eqb (columns_of b) 1) (eqb (zoom_y b) 1) t).1 in
-        let same : p.down ≡ (p.row + k) % zoom_y b = down_is b p q.at ∙ rw (flat, mod-one p.row, mod-one (p.row + k)) refl in
-        let on : p.sourcerow + k ≡ (p.row + k) / zoom_y b = ap (λ (x : ℕ). x + k) (sourcerow_is b p q.at) ∙ rw (flat, div-one p.row, div-one (p.row + k)) refl in
-        rw t (λ i. record { row = p.row + k; col = p.col; down = same i; across = across_is b p q.at i; sourcerow = on i; sourcecol = sourcecol_is b p q.at i })
 
     -- along a row, in the given source column
     ahead_along : tall_of b ≡ false → (across sourcecol : ℕ) → across ≡ (p.col + k) % zoom_x b → sourcecol ≡ (p.col + k) / zoom_x b % pattern_of b
@@ -99,16 +80,6 @@ module _ {b : Block} {p : Place} (q : Placed b p) {count : ℕ} (some : 0 < coun
   last_inside =
       let one : count ≡ count - 1 + 1 = omega arith in
       rw e (ahead_in q (count - 1) (subst (Reach b p.row p.col) one r))
-
-  pub behind_col : l.col + 1 < columns_of b → place_at b l.row (l.col + 1) ≡ place_at b (after_row b p.row p.col count) (after_col b p.col count)
-  behind_col h =
-      let near : ahead_col b p.col (count - 1) + 1 < columns_of b = omega (arith, ap (λ (x : Place). x.col) e) in
-      rw (e, lt-ltb (ahead_col b p.col (count - 1) + 1) (columns_of b) near)
-
-  pub behind_row : columns_of b ≤ l.col + 1 → place_at b (l.row + 1) 0 ≡ place_at b (after_row b p.row p.col count) (after_col b p.col count)
-  behind_row h =
-      let far : columns_of b ≤ ahead_col b p.col (count - 1) + 1 = omega (arith, ap (λ (x : Place). x.col) e) in
-      rw (e, le-ltb (ahead_col b p.col (count - 1) + 1) (columns_of b) far)
 
 -- a place inside its block is small, and so is what is in reach of it
 pub record Small (p : Place) : Type 0 where

@@ -5,7 +5,7 @@ use Prim.Native.Nat.{◌<◌, ◌≤◌}
 use Rattle.stretch.specs.Stretch.{trace}
 use Rattle.engine.specs.Engine.{Placed}
 use Rattle.engine.proofs.Reaching.{Small, placed_small, reach_small}
-use Rattle.engine.proofs.Bursts.{Stretched, reach_less, placed_in, stretched, stretch_made, last_placed, burst_col, burst_row, burst_end, burst_left}
+use Rattle.engine.proofs.Bursts.{Stretched, reach_less, placed_in, stretched, stretch_made, last_placed, stretch_col, stretch_row, stretch_end, burst_left}
 use Rattle.engine.proofs.Sofar.burst_each.Goals as goal
 use Rattle.engine.proofs.Sofar.burst_each.Goals.{After-draw-drawn}
 
@@ -39,7 +39,7 @@ overflow_add-place c =
 pub loop-counts-preserved-then-place-columns : goal.loop-counts-preserved-then-place-columns
 loop-counts-preserved-then-place-columns c =
     let t = turn (goal.at.loop-counts-preserved-then-place-columns c).After-draw-drawn in
-    record { kept = c.loop-counts.invariant.kept; going = rw c.next_col.ensures (burst_col t c.ahead.ensures c.columns-columns.ensures c.if-place-columns.true); at = rw c.next_col.ensures refl }
+    record { kept = c.loop-counts.invariant.kept; going = rw (c.next_col.ensures, c.ahead.ensures) (stretch_col t (rw (c.ahead.ensures, c.columns-columns.ensures) at c.if-place-columns.true)); at = rw c.next_col.ensures refl }
 
 pub overflow_add-place-else-place-columns : goal.overflow_add-place-else-place-columns
 overflow_add-place-else-place-columns c =
@@ -51,7 +51,7 @@ loop-counts-preserved c =
     let t = turn (goal.at.loop-counts-preserved c).After-draw-drawn in
     record {
       kept = c.loop-counts.invariant.kept;
-      going = rw c.next_row.ensures (burst_row t c.ahead.ensures c.columns-columns.ensures c.rows-rows.ensures c.if-place-columns.false c.if-place-rows.true);
+      going = rw (c.next_row.ensures, c.ahead.ensures) (stretch_row t (rw (c.ahead.ensures, c.columns-columns.ensures) at c.if-place-columns.false) (rw (c.ahead.ensures, c.rows-rows.ensures) at c.if-place-rows.true));
       at = rw c.next_row.ensures refl;
     }
 
@@ -59,7 +59,7 @@ pub returns-else-place-rows : goal.returns-else-place-rows
 returns-else-place-rows c =
     let t = turn (goal.at.returns-else-place-rows c).After-draw-drawn in
     rw (c.end.ensures, c.loop-counts.invariant.kept)
-    (burst_end t c.ahead.ensures c.columns-columns.ensures c.rows-rows.ensures c.if-place-columns.false c.if-place-rows.false)
+    (stretch_end t (rw (c.ahead.ensures, c.columns-columns.ensures) at c.if-place-columns.false) (rw (c.ahead.ensures, c.rows-rows.ensures) at c.if-place-rows.false))
 
 pub leave-requires : goal.leave-requires
 leave-requires c =
