@@ -77,6 +77,7 @@ fn dest_step(block: Block) -> u32
 
 impl Place {
     // The place at a row and a column.
+    #[tactic(auto, using(block::proofs::Sizes::pattern_pos))]
     fn at(block: Block, row: u16, col: u16) -> Place
         ensures { result ≡ place_at block row col }
     {
@@ -93,6 +94,7 @@ impl Place {
     }
 
     // The next column: the same source column, or the next of the pattern, or its first.
+    #[tactic(auto, using(crate::proofs::Following::same_column, crate::proofs::Following::next_column, crate::proofs::Following::first_column))]
     fn next_col(&mut self, block: Block)
         requires { (self.old ≡ place_at block self.old.row self.old.col) × (self.old.col < 65535) }
         ensures { self.new ≡ place_at block self.old.row (self.old.col + 1) }
@@ -110,6 +112,7 @@ impl Place {
     }
 
     // The first column of the next row: of the same source row, or of the next.
+    #[tactic(auto, using(crate::proofs::Following::same_row, crate::proofs::Following::below_row))]
     fn next_row(&mut self, block: Block)
         requires { (self.old ≡ place_at block self.old.row self.old.col) × (self.old.row < 65535) }
         ensures { self.new ≡ place_at block (self.old.row + 1) 0 }
@@ -191,6 +194,7 @@ impl Place {
 }
 
 // A load tick: the 21 bytes at the list address.
+#[tactic(auto, unfolding(crate::specs::Tick::load_tick))]
 fn load(blitter: &mut Blitter, mem: &[u8])
     ensures { blitter.new ≡ load_tick blitter.old mem.now }
 {
@@ -202,6 +206,7 @@ fn load(blitter: &mut Blitter, mem: &[u8])
 }
 
 // After a block's last byte: the next block, or the list's end with its interrupt.
+#[tactic(auto, unfolding(crate::specs::Tick::ended))]
 fn end(blitter: &mut Blitter, note: Note)
     ensures { blitter.new ≡ ended blitter.old note }
 {
