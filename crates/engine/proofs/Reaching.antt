@@ -12,7 +12,7 @@ use Rattle.block.specs.Block.{zoom_x, zoom_y, pattern_of, columns_of, rows_of}
 use Rattle.block.specs.declared.Block.{Block}
 use Rattle.block.proofs.Place.{far_col}
 use Rattle.block.proofs.Sizes.{columns_small, rows_small, pattern_pos}
-use Rattle.blitter.proofs.Sound.{Inside}
+use Rattle.blitter.proofs.Sound.{Inside, first_inside}
 use Rattle.engine.specs.declared.Place.{Place}
 use Rattle.engine.specs.Engine.{place_at, Placed, Column, Row, Reach, tall_of, ahead_row, ahead_col, after_row, after_col}
 use Rattle.engine.proofs.Following.{down_is, across_is, sourcerow_is, sourcecol_is, across_small, sourcerow_small, sourcecol_small}
@@ -80,6 +80,10 @@ module _ {b : Block} {p : Place} (q : Placed b p) {count : ℕ} (some : 0 < coun
   last_inside =
       let one : count ≡ count - 1 + 1 = omega arith in
       rw e (ahead_in q (count - 1) (subst (Reach b p.row p.col) one r))
+
+-- a block's first place is inside it
+pub first_placed : (b : Block) (p : Place) → p ≡ place_at b 0 0 → Placed b p
+first_placed b p e = let first = first_inside b in rw e (record { at = refl; row_in = first.row_in; col_in = first.col_in })
 
 -- a place inside its block is small, and so is what is in reach of it
 pub record Small (p : Place) : Type 0 where

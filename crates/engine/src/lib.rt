@@ -130,6 +130,7 @@ impl Place {
     }
 
     // The place behind so many bytes of a stretch. Behind the block's last byte it is the first of a row that is not there.
+    #[tactic(auto, using(crate::proofs::Reaching::last_at, crate::proofs::Reaching::last_inside, block::proofs::Sizes::columns_small, block::proofs::Sizes::rows_small))]
     fn after(&mut self, block: Block, count: u32)
         requires { Placed block self.old × (0 < count) × Reach block self.old.row self.old.col count }
         ensures { self.new ≡ place_at block (after_row block self.old.row self.old.col count) (after_col block self.old.col count) }
@@ -144,6 +145,7 @@ impl Place {
 
     // How many bytes from here on are the two steps apart: all that are left of a tall block; else those left of the
     // row, of the pattern's columns or of the columns that show one source byte.
+    #[tactic(auto, using(crate::proofs::Reaching::sourcecol_in, crate::proofs::Reaching::reach_plain))]
     fn reach(self, block: Block) -> u32
         requires { Placed block self }
         ensures { (0 < result) × Reach block self.row self.col result }
@@ -160,6 +162,7 @@ impl Place {
     }
 
     // The place k bytes on, inside a stretch.
+    #[tactic(auto, using(crate::proofs::Reaching::ahead_plain, crate::proofs::Reaching::ahead_zoomed, crate::proofs::Reaching::reach_small, crate::proofs::Following::across_small, crate::proofs::Following::sourcerow_small, crate::proofs::Following::sourcecol_small, block::proofs::Sizes::columns_small, block::proofs::Sizes::rows_small))]
     fn ahead(&mut self, block: Block, k: u32)
         requires { Placed block self.old × Reach block self.old.row self.old.col (k + 1) }
         ensures { self.new ≡ place_at block (ahead_row block self.old.row k) (ahead_col block self.old.col k) }
@@ -177,6 +180,7 @@ impl Place {
     }
 
     // The stretch of so many bytes from here on.
+    #[tactic(auto, using(crate::proofs::Following::source_is, crate::proofs::Following::sourcerow_small, crate::proofs::Following::sourcecol_small, block::proofs::Sizes::columns_small, block::proofs::Sizes::rows_small))]
     fn stretch(self, block: Block, count: u32) -> Stretch
         requires { Placed block self × (count ≤ 65535) }
         ensures { result ≡ stretch_at block self.row self.col count }
@@ -239,6 +243,7 @@ fn leave(blitter: &mut Blitter, place: Place, note: Note)
 
 // Whether a block's stretches are drawn at once: they are flat, and the longest has 8 bytes or more. Shorter ones are
 // drawn as quickly by the other loops.
+#[tactic(auto, using(crate::proofs::Reaching::first_placed))]
 fn at_once(block: Block) -> bool
     ensures { result ≡ true → level_block block ≡ true }
 {
