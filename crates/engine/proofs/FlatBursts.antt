@@ -10,7 +10,6 @@ use borrow.Author.Tests.{ltb-true, ltb-false, leb-true, leb-false, lt-ltb}
 use Rattle.laws.proofs.Choice.{by_cond, both, and_both}
 use Rattle.vram.specs.Memory.{good_length}
 use Rattle.block.specs.Block.{columns_of, rows_of}
-use Rattle.block.specs.declared.Note.{Note}
 use Rattle.stretch.specs.Stretch.{Trace, trace, trace_of}
 use Rattle.stretch.specs.declared.Stretch.{Stretch}
 use Rattle.stretch.specs.Flat.{flat_count, first_of}
@@ -19,8 +18,8 @@ use Rattle.blitter.specs.declared.Blitter.{Blitter}
 use Rattle.blitter.proofs.Sound.{Inside, first_inside}
 use Rattle.engine.specs.declared.Sofar.{Sofar}
 use Rattle.engine.specs.Tick.{ended}
-use Rattle.engine.specs.Engine.{BurstFrom, BurstTo, Reach, ahead_row, ahead_col, after_row, after_col, level_block, stretch_at, left_at}
-use Rattle.engine.proofs.Bursts.{Bursting, sofar, Stretched, reach_less, burst_start, burst_used, last_in, stretch_col, stretch_row, stretch_end}
+use Rattle.engine.specs.Engine.{BurstTo, Reach, ahead_row, ahead_col, after_row, after_col, level_block, stretch_at, left_at}
+use Rattle.engine.proofs.Bursts.{Bursting, sofar, Stretched, reach_less, burst_used, last_in, stretch_col, stretch_row, stretch_end}
 
 pub record Turned (run : Sofar) (first : List ℕ) (budget : ℕ) (now : Trace) (row col done : ℕ) : Type 0 where
   pub going : row < rows_of run.blitter.block → Bursting run first budget now row col done

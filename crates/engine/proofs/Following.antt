@@ -106,3 +106,7 @@ module _ (b : Block) (p : Place) (at : p ≡ place_at b p.row p.col) where
   below_row h =
       let n = on_row (zoom_y b) zoom_y_pos p.row (rw (sym down_is) h) in
       in_row _ _ (sym n.1) (ap (λ (x : ℕ). x + 1) sourcerow_is ∙ sym n.0)
+
+pub ruleset next_column_is = (same_column, next_column, first_column)
+
+pub ruleset next_row_is = (same_row, below_row)

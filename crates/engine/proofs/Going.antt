@@ -1,5 +1,5 @@
 -- What holds whenever the test of a run's loop is reached: the rest of the budget makes of it what the whole makes of the beginning. Assumes nothing.
-use mathlib.Core.Path.{◌≡◌, refl, sym, ap, ◌∙◌}
+use mathlib.Core.Path.{◌≡◌, sym, ap, ◌∙◌}
 use mathlib.Core.Bool.{true}
 use mathlib.Core.List.{List}
 use Prim.Native.Nat.{ℕ, ◌+◌, ◌-◌, ◌*◌, ◌≤◌, ◌<◌}
@@ -12,7 +12,7 @@ use Rattle.blitter.specs.State.{sound_blitter}
 use Rattle.engine.specs.Tick.{load_tick, tick_blitter, tick_memory, tick_count}
 use Rattle.engine.specs.Run.{ticked, run_for, begun}
 use Rattle.engine.specs.declared.Sofar.{Sofar}
-use Rattle.engine.specs.Engine.{so_far, BurstFrom, BurstTo}
+use Rattle.engine.specs.Engine.{so_far, BurstFrom}
 use Rattle.blitter.proofs.Sound.{sound_facts, sound_test}
 use Rattle.engine.proofs.Tick.{load_sound}
 use Rattle.engine.proofs.Runs.{run_idle, run_tick}

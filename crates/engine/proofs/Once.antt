@@ -1,7 +1,6 @@
 -- The contract of a run admits one outcome only. Assumes nothing.
-use mathlib.Core.Path.{◌≡◌, sym, ◌∙◌}
+use mathlib.Core.Path.{sym, ◌∙◌}
 use Rattle.laws.proofs.Once.{OneAnswer, OneExit}
-use Rattle.refusal.specs.declared.After.{After}
 use Rattle.refusal.proofs.Sheet.{told_one}
 use Rattle.engine.proofs.run.Kinds as run_kinds
 use Rattle.engine.proofs.run.Reads as run

@@ -1,20 +1,18 @@
 -- How far a place's stretch reaches, and the place k bytes on. Assumes nothing.
 use mathlib.Core.Path.{◌≡◌, refl, sym, ap, subst, ◌∙◌}
 use mathlib.Core.Bool.{true, false}
-use mathlib.Core.Logic.{inl, inr, ⊎_elim}
+use mathlib.Core.Logic.{inr, ⊎_elim}
 use Prim.Native.Nat.{ℕ, ◌+◌, ◌-◌, ◌/◌, ◌%◌, ◌≤◌, ◌<◌, min}
 use native.Mathlib.Nat.{mod-lt, mod-one, div-one}
 use native.Mathlib.Omega.{arith}
-use lib.Dec.{eqb}
-use borrow.Author.Tests.{eqb-true, lt-ltb, le-ltb}
-use Rattle.laws.proofs.Choice.{both, true_false}
-use Rattle.block.specs.Block.{zoom_x, zoom_y, pattern_of, columns_of, rows_of}
+use Rattle.laws.proofs.Choice.{true_false}
+use Rattle.block.specs.Block.{zoom_x, pattern_of, columns_of}
 use Rattle.block.specs.declared.Block.{Block}
 use Rattle.block.proofs.Place.{far_col}
 use Rattle.block.proofs.Sizes.{columns_small, rows_small, pattern_pos}
 use Rattle.blitter.proofs.Sound.{Inside, first_inside}
 use Rattle.engine.specs.declared.Place.{Place}
-use Rattle.engine.specs.Engine.{place_at, Placed, Column, Row, Reach, tall_of, ahead_row, ahead_col, after_row, after_col}
+use Rattle.engine.specs.Engine.{place_at, Placed, Column, Row, Reach, tall_of, ahead_row, ahead_col}
 use Rattle.engine.proofs.Following.{down_is, across_is, sourcerow_is, sourcecol_is, across_small, sourcerow_small, sourcecol_small}
 
 module _ {b : Block} {p : Place} (q : Placed b p) where
@@ -85,26 +83,13 @@ module _ {b : Block} {p : Place} (q : Placed b p) {count : ℕ} (some : 0 < coun
 pub first_placed : (b : Block) (p : Place) → p ≡ place_at b 0 0 → Placed b p
 first_placed b p e = let first = first_inside b in rw e (record { at = refl; row_in = first.row_in; col_in = first.col_in })
 
--- a place inside its block is small, and so is what is in reach of it
-pub record Small (p : Place) : Type 0 where
-  pub row_small : p.row < 2048
-  pub col_small : p.col < 4096
-  pub across_small : p.across < 4096
-  pub sourcerow_small : p.sourcerow < 2048
-  pub sourcecol_small : p.sourcecol < 4096
-
-pub placed_small : {b : Block} {p : Place} → b.height < 256 → b.width0 < 256 → Placed b p → Small p
-placed_small {b} {p} h w q =
-    let row = rows_small b h in
-    let col = columns_small b w in
-    record {
-      row_small = omega (arith, q.row_in);
-      col_small = omega (arith, q.col_in);
-      across_small = omega (arith, q.col_in, across_small b p q.at);
-      sourcerow_small = omega (arith, q.row_in, sourcerow_small b p q.at);
-      sourcecol_small = omega (arith, q.col_in, sourcecol_small b p q.at);
-    }
-
 -- no reach is long
 pub reach_small : (b : Block) (row col n : ℕ) → b.height < 256 → b.width0 < 256 → Reach b row col n → n ≤ 4096
 reach_small b row col n h w = ⊎_elim (λ c. omega (arith, c.left, rows_small b h)) (λ r. omega (arith, r.left, columns_small b w))
+
+-- a place inside its block is small, and so is what is in reach of it
+pub ruleset small = (columns_small, rows_small, across_small, sourcerow_small, sourcecol_small, reach_small)
+
+pub ruleset ahead_is = (ahead_plain, ahead_zoomed)
+
+pub ruleset last_is = (last_at, last_inside)

@@ -94,7 +94,7 @@ impl Place {
     }
 
     // The next column: the same source column, or the next of the pattern, or its first.
-    #[tactic(auto, using(crate::proofs::Following::same_column, crate::proofs::Following::next_column, crate::proofs::Following::first_column))]
+    #[tactic(auto, using(crate::proofs::Following::next_column_is))]
     fn next_col(&mut self, block: Block)
         requires { (self.old ≡ place_at block self.old.row self.old.col) × (self.old.col < 65535) }
         ensures { self.new ≡ place_at block self.old.row (self.old.col + 1) }
@@ -112,7 +112,7 @@ impl Place {
     }
 
     // The first column of the next row: of the same source row, or of the next.
-    #[tactic(auto, using(crate::proofs::Following::same_row, crate::proofs::Following::below_row))]
+    #[tactic(auto, using(crate::proofs::Following::next_row_is))]
     fn next_row(&mut self, block: Block)
         requires { (self.old ≡ place_at block self.old.row self.old.col) × (self.old.row < 65535) }
         ensures { self.new ≡ place_at block (self.old.row + 1) 0 }
@@ -130,7 +130,7 @@ impl Place {
     }
 
     // The place behind so many bytes of a stretch. Behind the block's last byte it is the first of a row that is not there.
-    #[tactic(auto, using(crate::proofs::Reaching::last_at, crate::proofs::Reaching::last_inside, block::proofs::Sizes::columns_small, block::proofs::Sizes::rows_small))]
+    #[tactic(auto, using(crate::proofs::Reaching::last_is, crate::proofs::Reaching::small))]
     fn after(&mut self, block: Block, count: u32)
         requires { Placed block self.old × (0 < count) × Reach block self.old.row self.old.col count }
         ensures { self.new ≡ place_at block (after_row block self.old.row self.old.col count) (after_col block self.old.col count) }
@@ -162,7 +162,7 @@ impl Place {
     }
 
     // The place k bytes on, inside a stretch.
-    #[tactic(auto, using(crate::proofs::Reaching::ahead_plain, crate::proofs::Reaching::ahead_zoomed, crate::proofs::Reaching::reach_small, crate::proofs::Following::across_small, crate::proofs::Following::sourcerow_small, crate::proofs::Following::sourcecol_small, block::proofs::Sizes::columns_small, block::proofs::Sizes::rows_small))]
+    #[tactic(auto, using(crate::proofs::Reaching::ahead_is, crate::proofs::Reaching::small))]
     fn ahead(&mut self, block: Block, k: u32)
         requires { Placed block self.old × Reach block self.old.row self.old.col (k + 1) }
         ensures { self.new ≡ place_at block (ahead_row block self.old.row k) (ahead_col block self.old.col k) }
@@ -180,7 +180,7 @@ impl Place {
     }
 
     // The stretch of so many bytes from here on.
-    #[tactic(auto, using(crate::proofs::Following::source_is, crate::proofs::Following::sourcerow_small, crate::proofs::Following::sourcecol_small, block::proofs::Sizes::columns_small, block::proofs::Sizes::rows_small))]
+    #[tactic(auto, using(crate::proofs::Following::source_is, crate::proofs::Reaching::small))]
     fn stretch(self, block: Block, count: u32) -> Stretch
         requires { Placed block self × (count ≤ 65535) }
         ensures { result ≡ stretch_at block self.row self.col count }
@@ -254,6 +254,7 @@ fn at_once(block: Block) -> bool
 impl Sofar {
     // The byte ticks of one block, a stretch at a time. The block stands in a
     // local that the loop never assigns, so that it is taken apart once.
+    #[tactic(auto, using(crate::proofs::Bursts::placed_in, crate::proofs::Reaching::small))]
     fn burst_each(mut self, mem: &mut [u8], budget: u32) -> Sofar
         requires { BurstFrom self mem.old budget }
         ensures { BurstTo self mem.old budget result mem.new }
@@ -288,6 +289,7 @@ impl Sofar {
 
     // The byte ticks of one block whose stretches are flat, each up to a wrap. Its loops stand apart from those of
     // `burst_each`, so that blocks that are not flat keep the loop they had (measured: docs/SPEED.md).
+    #[tactic(auto, using(crate::proofs::Bursts::placed_in, crate::proofs::Reaching::small))]
     fn burst_flat(mut self, mem: &mut [u8], budget: u32) -> Sofar
         requires { BurstFrom self mem.old budget × (level_block self.blitter.block ≡ true) }
         ensures { BurstTo self mem.old budget result mem.new }

@@ -1,11 +1,8 @@
 -- `engine::Sofar::burst_each` meets its contract. Assumes nothing.
-use mathlib.Core.Path.{◌≡◌, refl, sym, ◌∙◌}
+use mathlib.Core.Path.{refl}
 use native.Mathlib.Omega.{arith}
-use Prim.Native.Nat.{◌<◌, ◌≤◌}
 use Rattle.stretch.specs.Stretch.{trace}
-use Rattle.engine.specs.Engine.{Placed}
-use Rattle.engine.proofs.Reaching.{Small, placed_small, reach_small}
-use Rattle.engine.proofs.Bursts.{Stretched, reach_less, placed_in, stretched, stretch_made, last_placed, stretch_col, stretch_row, stretch_end, burst_left}
+use Rattle.engine.proofs.Bursts.{Stretched, reach_less, placed_in, stretched, stretch_made, stretch_col, stretch_row, stretch_end, burst_left}
 use Rattle.engine.proofs.Sofar.burst_each.Goals as goal
 use Rattle.engine.proofs.Sofar.burst_each.Goals.{After-draw-drawn}
 
@@ -16,13 +13,6 @@ turn : (c : After-draw-drawn)
     Stretched c.args.self c.args.mem.now c.args.budget (trace l.mem l.note l.counts.accesses) l.place.row l.place.col l.counts.ticks c.min-count.result (trace d.new.mem d.result.note d.result.accesses)
 turn c = stretched c.loop-counts.invariant.going c.loop-counts-test.true c.reach.ensures c.min-count.ensures c.stretch.ensures c.draw-drawn.ensures
 
-pub reach-requires : goal.reach-requires
-reach-requires c = placed_in c.loop-counts.invariant.going c.loop-counts.invariant.at
-
-pub stretch-requires : goal.stretch-requires
-stretch-requires c =
-    (placed_in c.loop-counts.invariant.going c.loop-counts.invariant.at, omega (arith, reach_small _ _ _ _ (omega arith) (omega arith) c.reach.ensures.1))
-
 pub overflow_add-counts : goal.overflow_add-counts
 overflow_add-counts c = stretch_made (turn (goal.at.overflow_add-counts c).After-draw-drawn)
 
@@ -31,20 +21,10 @@ ahead-requires c =
     let t = turn (goal.at.ahead-requires c).After-draw-drawn in
     (placed_in c.loop-counts.invariant.going c.loop-counts.invariant.at, reach_less _ _ _ _ _ (omega (arith, t.some)) t.reach)
 
-pub overflow_add-place : goal.overflow_add-place
-overflow_add-place c =
-    let s = placed_small (omega arith) (omega arith) (last_placed (turn (goal.at.overflow_add-place c).After-draw-drawn) c.ahead.ensures) in
-    record { fits = omega (arith, s.col_small) }
-
 pub loop-counts-preserved-then-place-columns : goal.loop-counts-preserved-then-place-columns
 loop-counts-preserved-then-place-columns c =
     let t = turn (goal.at.loop-counts-preserved-then-place-columns c).After-draw-drawn in
     record { kept = c.loop-counts.invariant.kept; going = rw (c.next_col.ensures, c.ahead.ensures) (stretch_col t (rw (c.ahead.ensures, c.columns-columns.ensures) at c.if-place-columns.true)); at = rw c.next_col.ensures refl }
-
-pub overflow_add-place-else-place-columns : goal.overflow_add-place-else-place-columns
-overflow_add-place-else-place-columns c =
-    let s = placed_small (omega arith) (omega arith) (last_placed (turn (goal.at.overflow_add-place-else-place-columns c).After-draw-drawn) c.ahead.ensures) in
-    record { fits = omega (arith, s.row_small) }
 
 pub loop-counts-preserved : goal.loop-counts-preserved
 loop-counts-preserved c =
@@ -60,11 +40,6 @@ returns-else-place-rows c =
     let t = turn (goal.at.returns-else-place-rows c).After-draw-drawn in
     rw (c.end.ensures, c.loop-counts.invariant.kept)
     (stretch_end t (rw (c.ahead.ensures, c.columns-columns.ensures) at c.if-place-columns.false) (rw (c.ahead.ensures, c.rows-rows.ensures) at c.if-place-rows.false))
-
-pub leave-requires : goal.leave-requires
-leave-requires c =
-    let s = placed_small (omega arith) (omega arith) (placed_in c.loop-counts.invariant.going c.loop-counts.invariant.at) in
-    (omega (arith, s.row_small), omega (arith, s.col_small))
 
 pub returns : goal.returns
 returns c = rw (c.leave.ensures, c.loop-counts.invariant.kept) (burst_left c.loop-counts.invariant.going c.loop-counts-test.false)

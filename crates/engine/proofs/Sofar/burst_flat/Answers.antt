@@ -1,12 +1,9 @@
 -- `engine::Sofar::burst_flat` meets its contract. Assumes nothing.
 use mathlib.Core.Path.{refl}
 use native.Mathlib.Omega.{arith}
-use Prim.Native.Nat.{◌<◌, ◌≤◌}
-use Rattle.block.proofs.Sizes.{columns_small, rows_small}
 use Rattle.stretch.specs.Stretch.{trace}
-use Rattle.engine.proofs.Reaching.{reach_small}
 use Rattle.engine.proofs.Bursts.{Stretched, placed_in, stretch_made, stretch_done}
-use Rattle.engine.proofs.FlatBursts.{turned_going, turned_left, turned_on, at_once}
+use Rattle.engine.proofs.FlatBursts.{turned_left, turned_on, at_once}
 use Rattle.engine.proofs.Sofar.burst_flat.Goals as goal
 use Rattle.engine.proofs.Sofar.burst_flat.Goals.{After-draw-part}
 
@@ -18,11 +15,6 @@ turn : (c : After-draw-part)
 turn c =
     at_once c.loop-place.invariant.turned c.rows-rows.ensures c.loop-place-test.true c.requires.1 c.reach.ensures c.min-most.ensures c.stretch.ensures
     c.draw-part.ensures.count c.draw-part.ensures.drawn
-
-pub stretch-requires : goal.stretch-requires
-stretch-requires c =
-    let g = turned_going c.loop-place.invariant.turned c.rows-rows.ensures c.loop-place-test.true in
-    (placed_in g c.loop-place.invariant.at, omega (arith, reach_small _ _ _ _ (omega arith) (omega arith) c.reach.ensures.1))
 
 pub overflow_add-counts : goal.overflow_add-counts
 overflow_add-counts c = stretch_made (turn (goal.at.overflow_add-counts c).After-draw-part)
@@ -44,11 +36,6 @@ pub loop-place-preserved : goal.loop-place-preserved
 loop-place-preserved c =
     let t = turn (goal.at.loop-place-preserved c).After-draw-part in
     rw c.after.ensures (record { turned = turned_on t; at = refl })
-
-pub leave-requires : goal.leave-requires
-leave-requires c =
-    let b = c.args.self.blitter.block in
-    (omega (arith, c.loop-place.invariant.turned.row_in, rows_small b (omega arith)), omega (arith, c.loop-place.invariant.turned.col_in, columns_small b (omega arith)))
 
 pub returns : goal.returns
 returns c = rw c.leave.ensures (turned_left c.loop-place.invariant.turned c.rows-rows.ensures c.loop-place-test.false)
