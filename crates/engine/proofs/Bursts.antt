@@ -166,10 +166,7 @@ module _ {run : Sofar} {first : List ℕ} {budget : ℕ} where
 
 -- fewer bytes are in reach too
 pub reach_less : (b : Block) (row col n k : ℕ) → k ≤ n → Reach b row col n → Reach b row col k
-reach_less b row col n k h =
-    ⊎_elim
-    (λ c. inl (record { tall = c.tall; left = omega (arith, c.left) }))
-    (λ r. inr (record { wide = r.wide; left = omega (arith, r.left); plain = λ e. omega (arith, r.plain e); zoomed = λ e. omega (arith, r.zoomed e) }))
+reach_less b row col n k h = grind arith
 
 -- no byte on is here
 none_row : (t : Bool) (row : ℕ) → cond t (row + 0) row ≡ row

@@ -20,7 +20,7 @@ module _ {b : Block} {p : Place} (q : Placed b p) where
   zoom_x_pos = omega arith
 
   pub sourcecol_in : p.sourcecol < pattern_of b
-  sourcecol_in = rw (sourcecol_is b p q.at) (mod-lt (p.col / zoom_x b) (pattern_pos b))
+  sourcecol_in = grind (arith, mod-lt, pattern_pos)
 
   pub reach_plain : tall_of b ≡ false → zoom_x b ≡ 1 → {n : ℕ} → n ≡ min (columns_of b - p.col) (pattern_of b - p.sourcecol) → (0 < n) × Reach b p.row p.col n
   reach_plain t e {n} m =
@@ -29,18 +29,14 @@ module _ {b : Block} {p : Place} (q : Placed b p) where
 
   module _ (k : ℕ) (r : Reach b p.row p.col (k + 1)) where
     as_column : tall_of b ≡ true → Column b p.row (k + 1)
-    as_column t = ⊎_elim (λ c. c) (λ w. true_false (sym t ∙ w.wide)) r
+    as_column t = grind arith
 
     as_row : tall_of b ≡ false → Row b p.col (k + 1)
-    as_row f = ⊎_elim (λ c. true_false (sym c.tall ∙ f)) (λ w. w) r
+    as_row f = grind arith
 
     -- what is in reach is inside the block
     pub ahead_in : Inside b (ahead_row b p.row k) (ahead_col b p.col k)
-    ahead_in =
-        ⊎_elim
-        (λ c. rw c.tall (record { row_in = omega (arith, c.left); col_in = q.col_in }))
-        (λ w. rw w.wide (record { row_in = q.row_in; col_in = omega (arith, w.left) }))
-        r
+    ahead_in = grind arith
 
     -- along a row, in the given source column
     ahead_along : tall_of b ≡ false → (across sourcecol : ℕ) → across ≡ (p.col + k) % zoom_x b → sourcecol ≡ (p.col + k) / zoom_x b % pattern_of b
@@ -75,9 +71,7 @@ module _ {b : Block} {p : Place} (q : Placed b p) {count : ℕ} (some : 0 < coun
   last_at = rw e refl
 
   pub last_inside : Inside b l.row l.col
-  last_inside =
-      let one : count ≡ count - 1 + 1 = omega arith in
-      rw e (ahead_in q (count - 1) (subst (Reach b p.row p.col) one r))
+  last_inside = grind (arith, ahead_in)
 
 -- a block's first place is inside it
 pub first_placed : (b : Block) (p : Place) → p ≡ place_at b 0 0 → Placed b p
@@ -85,7 +79,7 @@ first_placed b p e = let first = first_inside b in rw e (record { at = refl; row
 
 -- no reach is long
 pub reach_small : (b : Block) (row col n : ℕ) → b.height < 256 → b.width0 < 256 → Reach b row col n → n ≤ 4096
-reach_small b row col n h w = ⊎_elim (λ c. omega (arith, c.left, rows_small b h)) (λ r. omega (arith, r.left, columns_small b w))
+reach_small b row col n h w = grind (arith, rows_small, columns_small)
 
 -- a place inside its block is small, and so is what is in reach of it
 pub ruleset small = (columns_small, rows_small, across_small, sourcerow_small, sourcecol_small, reach_small)
