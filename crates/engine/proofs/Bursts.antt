@@ -68,30 +68,12 @@ pub record Bursting (run : Sofar) (first : List ℕ) (budget : ℕ) (now : Trace
 
 module _ {run : Sofar} {first : List ℕ} {budget : ℕ} where
   pub burst_start : BurstFrom run first budget → Bursting run first budget (trace first run.blitter.note run.counts.accesses) run.blitter.row run.blitter.col run.counts.ticks
-  burst_start f =
-      record {
-        from = f;
-        long = refl;
-        place = record { row_in = f.row; col_in = f.col };
-        begun = omega arith;
-        within = omega (arith, f.left);
-        counted = f.counted;
-        same = ap (λ (x : Blitter). run_for (budget - run.counts.ticks) (progress x first run.counts.ticks run.counts.accesses)) (as_busy run.blitter run.blitter.row run.blitter.col run.blitter.note f.busy);
-      }
+  burst_start f = grind (arith, as_busy)
 
   module _ {now : Trace} {row col done : ℕ} (g : Bursting run first budget now row col done) where
     -- the budget is used
     pub burst_used : budget ≤ done → BurstTo run first budget (sofar (placed run.blitter run.blitter.flags row col now.note) done now.accesses) now.mem
-    burst_used h =
-        subst (λ (x : Blitter). BurstTo run first budget (sofar x done now.accesses) now.mem) (as_busy run.blitter row col now.note g.from.busy)
-        (record {
-          sound = sound_test _ (busy_sound run.blitter row col now.note g.from.list g.place);
-          long = g.long;
-          further = omega (arith, g.from.left);
-          within = g.within;
-          counted = g.counted;
-          same = g.same;
-        })
+    burst_used h = grind (arith, as_busy, sound_test, busy_sound)
 
     pub burst_left : budget ≤ done → BurstTo run first budget (sofar (left_at run.blitter row col now.note) done now.accesses) now.mem
     burst_left h = rw (lt-leb (rows_of run.blitter.block) row g.place.row_in) (burst_used h)
@@ -118,51 +100,25 @@ module _ {run : Sofar} {first : List ℕ} {budget : ℕ} where
 
       few_on : next.accesses ≤ 21 * (done + 1)
       unfolding byte
-      few_on = let few : byte.accesses ≤ 3 = struck_small run.blitter.block _ _ now.mem now.note in omega (arith, few, g.counted)
+      few_on = grind (arith, struck_small)
 
       -- the next column
       turn_col : col + 1 < columns_of run.blitter.block
           → Bursting run first budget next row (col + 1) (done + 1)
       unfolding byte moved_on
-      turn_col k =
-          record {
-            from = g.from;
-            long = long_on;
-            place = record { row_in = g.place.row_in; col_in = k };
-            begun = omega (arith, g.begun);
-            within = omega arith;
-            counted = few_on;
-            same = rw (lt-ltb (col + 1) (columns_of run.blitter.block) k) at on;
-          }
+      turn_col k = grind (arith, on, long_on, few_on)
 
       -- the next row
       turn_row : columns_of run.blitter.block ≤ col + 1 → row + 1 < rows_of run.blitter.block
           → Bursting run first budget next (row + 1) 0 (done + 1)
       unfolding byte moved_on
-      turn_row k l =
-          record {
-            from = g.from;
-            long = long_on;
-            place = record { row_in = l; col_in = (first_inside run.blitter.block).col_in };
-            begun = omega (arith, g.begun);
-            within = omega arith;
-            counted = few_on;
-            same = rw (le-ltb (col + 1) (columns_of run.blitter.block) k, lt-ltb (row + 1) (rows_of run.blitter.block) l) at on;
-          }
+      turn_row k l = grind (arith, on, long_on, few_on, first_inside)
 
       -- the block's end
       turn_end : columns_of run.blitter.block ≤ col + 1 → rows_of run.blitter.block ≤ row + 1
           → BurstTo run first budget (sofar (ended run.blitter next.note) (done + 1) next.accesses) next.mem
       unfolding byte moved_on ended
-      turn_end k l =
-          record {
-            sound = sound_test _ (ended_sound run.blitter _ g.from.list);
-            long = long_on;
-            further = omega (arith, g.begun);
-            within = omega arith;
-            counted = few_on;
-            same = rw (le-ltb (col + 1) (columns_of run.blitter.block) k, le-ltb (row + 1) (rows_of run.blitter.block) l) at on;
-          }
+      turn_end k l = grind (arith, on, long_on, few_on, sound_test, ended_sound)
 
 -- fewer bytes are in reach too
 pub reach_less : (b : Block) (row col n k : ℕ) → k ≤ n → Reach b row col n → Reach b row col k
@@ -258,14 +214,7 @@ pub stretched :
     → {reached count : ℕ} → (0 < reached) × Reach run.blitter.block row col reached → count ≡ min reached (budget - done)
     → {bytes : Stretch} → bytes ≡ stretch_at run.blitter.block row col count → {d : Trace} → d ≡ trace_of run.blitter.block bytes now.mem now.note
     → Stretched run first budget now row col done count d
-stretched {run} {now = now} {row} {col} g h {reached} {count} (some, r) m s e =
-    record {
-      going = g;
-      some = omega arith;
-      reach = reach_less run.blitter.block row col reached count (omega arith) r;
-      room = omega arith;
-      drew = e ∙ ap (λ (x : Stretch). trace_of run.blitter.block x now.mem now.note) s;
-    }
+stretched g h r m s e = grind (arith, reach_less)
 
 module _ {run : Sofar} {first : List ℕ} {budget : ℕ} {now : Trace} {row col done count : ℕ} {d : Trace} (s : Stretched run first budget now row col done count d) where
   -- the burst where so many ticks are done
@@ -275,10 +224,10 @@ module _ {run : Sofar} {first : List ℕ} {budget : ℕ} {now : Trace} {row col 
   abbrev after : ℕ → Trace
   after k = many run first budget s.going k
 
-  abbrev last_row : ℕ
+  abbrev pub last_row : ℕ
   last_row = ahead_row run.blitter.block row (count - 1)
 
-  abbrev last_col : ℕ
+  abbrev pub last_col : ℕ
   last_col = ahead_col run.blitter.block col (count - 1)
 
   board_in : good_length (length now.mem) ≡ true
@@ -291,7 +240,7 @@ module _ {run : Sofar} {first : List ℕ} {budget : ℕ} {now : Trace} {row col 
   last_reach = reach_less run.blitter.block row col count (suc (count - 1)) (omega (arith, s.some)) s.reach
 
   -- what is made with it
-  abbrev sum : Trace
+  abbrev pub sum : Trace
   sum = trace d.mem d.note (now.accesses + d.accesses)
 
   whole : after (suc (count - 1)) ≡ sum
@@ -336,11 +285,11 @@ module _ {run : Sofar} {first : List ℕ} {budget : ℕ} {now : Trace} {row col 
 
   -- then the next column
   pub stretch_col : last_col + 1 < columns_of run.blitter.block → Now sum last_row (last_col + 1) (done + count)
-  stretch_col h = moved run first budget _ sum _ _ _ _ _ (done + count) all_drawn refl refl all_done (turn_col last in_budget h)
+  stretch_col h = rw (all_drawn, all_done) at (turn_col last in_budget h)
 
   -- or the next row
   pub stretch_row : columns_of run.blitter.block ≤ last_col + 1 → last_row + 1 < rows_of run.blitter.block → Now sum (last_row + 1) 0 (done + count)
-  stretch_row h k = moved run first budget _ sum _ _ _ _ _ (done + count) all_drawn refl refl all_done (turn_row last in_budget h k)
+  stretch_row h k = rw (all_drawn, all_done) at (turn_row last in_budget h k)
 
   -- or the block's end
   pub stretch_end : columns_of run.blitter.block ≤ last_col + 1 → rows_of run.blitter.block ≤ last_row + 1 → BurstTo run first budget (sofar (ended run.blitter d.note) (done + count) (now.accesses + d.accesses)) d.mem
@@ -351,4 +300,4 @@ module _ {run : Sofar} {first : List ℕ} {budget : ℕ} {now : Trace} {row col 
 
   -- the place of its last byte
   pub last_placed : {l : Place} → l ≡ place_at run.blitter.block last_row last_col → Placed run.blitter.block l
-  last_placed e = rw e (record { at = refl; row_in = last_in.row_in; col_in = last_in.col_in })
+  last_placed e = grind (arith, last_in)

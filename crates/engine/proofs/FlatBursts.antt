@@ -19,7 +19,7 @@ use Rattle.blitter.proofs.Sound.{Inside, first_inside}
 use Rattle.engine.specs.declared.Sofar.{Sofar}
 use Rattle.engine.specs.Tick.{ended}
 use Rattle.engine.specs.Engine.{BurstTo, Reach, ahead_row, ahead_col, after_row, after_col, level_block, stretch_at, left_at}
-use Rattle.engine.proofs.Bursts.{Bursting, sofar, Stretched, reach_less, burst_used, last_in, stretch_col, stretch_row, stretch_end}
+use Rattle.engine.proofs.Bursts.{Bursting, sofar, Stretched, reach_less, burst_left, last_row, last_col, sum, last_in, stretch_col, stretch_row, stretch_end}
 
 pub record Turned (run : Sofar) (first : List ℕ) (budget : ℕ) (now : Trace) (row col done : ℕ) : Type 0 where
   pub going : row < rows_of run.blitter.block → Bursting run first budget now row col done
@@ -31,32 +31,20 @@ module _ {run : Sofar} {first : List ℕ} {budget : ℕ} where
   -- the budget is used, or the block has ended
   pub turned_left : {now : Trace} {row col done rows : ℕ} → Turned run first budget now row col done → rows ≡ rows_of run.blitter.block
       → (ltb row rows && ltb done budget) ≡ false → BurstTo run first budget (sofar (left_at run.blitter row col now.note) done now.accesses) now.mem
-  turned_left {now} {row} {col} {done} {rows} g e t =
-      by_cond (λ (x : Blitter). BurstTo run first budget (sofar x done now.accesses) now.mem) (leb (rows_of run.blitter.block) row) _ _
-      (λ behind. g.ending (leb-true (rows_of run.blitter.block) row behind))
-      (λ before. let h : row < rows_of run.blitter.block = leb-false (rows_of run.blitter.block) row before in burst_used (g.going h) (ltb-false done budget (rw (lt-ltb row rows (omega (arith, h))) at t)))
+  turned_left g e t = grind (arith, burst_left)
 
 -- behind a whole stretch
 module _ {run : Sofar} {first : List ℕ} {budget : ℕ} {now : Trace} {row col done count : ℕ} {d : Trace} (s : Stretched run first budget now row col done count d) where
-  abbrev last_row : ℕ
-  last_row = ahead_row run.blitter.block row (count - 1)
-
-  abbrev last_col : ℕ
-  last_col = ahead_col run.blitter.block col (count - 1)
-
-  abbrev sum : Trace
-  sum = trace d.mem d.note (now.accesses + d.accesses)
-
-  pub turned_on : Turned run first budget sum (after_row run.blitter.block row col count) (after_col run.blitter.block col count) (done + count)
-  turned_on = by_test (ltb (last_col + 1) (columns_of run.blitter.block)) refl
+  pub turned_on : Turned run first budget (sum s) (after_row run.blitter.block row col count) (after_col run.blitter.block col count) (done + count)
+  turned_on = by_test (ltb (last_col s + 1) (columns_of run.blitter.block)) refl
     where
-      inside : Inside run.blitter.block last_row last_col
+      inside : Inside run.blitter.block (last_row s) (last_col s)
       inside = last_in s
 
-      by_test : (t : Bool) → ltb (last_col + 1) (columns_of run.blitter.block) ≡ t
-          → Turned run first budget sum (cond t last_row (last_row + 1)) (cond t (last_col + 1) 0) (done + count)
+      by_test : (t : Bool) → ltb (last_col s + 1) (columns_of run.blitter.block) ≡ t
+          → Turned run first budget (sum s) (cond t (last_row s) (last_row s + 1)) (cond t (last_col s + 1) 0) (done + count)
       by_test true t =
-          let h = ltb-true (last_col + 1) (columns_of run.blitter.block) t in
+          let h = ltb-true (last_col s + 1) (columns_of run.blitter.block) t in
           record {
             going = λ _. stretch_col s h;
             ending = λ k. absurd (omega (arith, inside.row_in));
@@ -64,7 +52,7 @@ module _ {run : Sofar} {first : List ℕ} {budget : ℕ} {now : Trace} {row col 
             col_in = h;
           }
       by_test false t =
-          let h = ltb-false (last_col + 1) (columns_of run.blitter.block) t in
+          let h = ltb-false (last_col s + 1) (columns_of run.blitter.block) t in
           record {
             going = λ k. stretch_row s h k;
             ending = λ k. stretch_end s h k;

@@ -63,18 +63,12 @@ module _ {b : Blitter} {mem : List ℕ} (m n : ℕ) (t : Taken b mem (m + n)) wh
   first_taken = record { good = t.good; sound = t.sound; small = omega (arith, t.small) }
 
   pub second_taken : Taken (engine_blitter b mem m) (engine_memory b mem m) n
-  second_taken =
-      record {
-        good = ap good_length (taken_length first_taken) ∙ t.good;
-        sound = taken_sound first_taken;
-        small = omega (arith, t.small);
-      }
+  second_taken = grind (arith, taken_length, taken_sound, first_taken)
 
   pub pieces_machine :
       machine (engine_blitter (engine_blitter b mem m) (engine_memory b mem m) n) (engine_memory (engine_blitter b mem m) (engine_memory b mem m) n)
       ≡ machine (engine_blitter b mem (m + n)) (engine_memory b mem (m + n))
-  pieces_machine =
-      taken_machine second_taken ∙ ap (after n) (taken_machine first_taken) ∙ sym (after_add m n (machine b mem)) ∙ sym (taken_machine t)
+  pieces_machine = grind (arith, taken_machine, first_taken, second_taken, after_add)
 
   pub pieces_blitter : engine_blitter (engine_blitter b mem m) (engine_memory b mem m) n ≡ engine_blitter b mem (m + n)
   pieces_blitter = ap (λ (s : Machine). s.blitter) pieces_machine
