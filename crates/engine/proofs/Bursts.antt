@@ -10,7 +10,7 @@ use lib.ListN.{length}
 use mir.Syntax.{w32}
 use mir.Val.{Fits}
 use lib.Dec.{eqb}
-use borrow.Author.Tests.{eqb-true, lt-ltb, le-ltb, lt-leb}
+use borrow.Author.Tests.{eqb-true, lt-leb}
 use Rattle.laws.proofs.Choice.{both}
 use Rattle.vram.specs.Memory.{good_length}
 use Rattle.block.specs.Block.{zoom_y, columns_of, rows_of, dest_address, source_address}

@@ -1,13 +1,9 @@
 -- Bytes stay bytes over a tick, over n ticks and over a run: memory's, the block's and the note's. Assumes nothing.
-use mathlib.Core.Bool.{Bool, true, false, cond}
 use mathlib.Core.List.{List}
-use Prim.Native.Nat.{ℕ, ◌+◌}
+use Prim.Native.Nat.{ℕ}
 use native.Mathlib.Omega.{arith}
-use lib.Dec.{eqb, ltb}
-use Rattle.laws.proofs.Choice.{by_cond}
 use Rattle.vram.specs.Memory.{Bytes}
-use Rattle.block.specs.Block.{no_side, no_block, columns_of, rows_of}
-use Rattle.block.specs.Byte.{written}
+use Rattle.block.specs.Block.{no_side, no_block}
 use Rattle.block.specs.declared.Note.{Note}
 use Rattle.block.proofs.Byte.{note_bytes, written_bytes}
 use Rattle.block.proofs.Bytes.{SideBytes, BlockBytes, NoteBytes, block_bytes}

@@ -4,21 +4,20 @@ use mathlib.Core.Bool.{Bool, true, false, cond, ◌&&◌}
 use mathlib.Core.List.{List}
 use Prim.Native.Nat.{ℕ, ◌+◌, ◌-◌, ◌≤◌, ◌<◌, min}
 use native.Mathlib.Omega.{arith}
-use lib.Dec.{leb, ltb}
+use lib.Dec.{ltb}
 use lib.ListN.{length}
-use borrow.Author.Tests.{ltb-true, ltb-false, leb-true, leb-false, lt-ltb}
-use Rattle.laws.proofs.Choice.{by_cond, both, and_both}
+use borrow.Author.Tests.{ltb-true, ltb-false}
+use Rattle.laws.proofs.Choice.{both, and_both}
 use Rattle.vram.specs.Memory.{good_length}
 use Rattle.block.specs.Block.{columns_of, rows_of}
-use Rattle.stretch.specs.Stretch.{Trace, trace, trace_of}
+use Rattle.stretch.specs.Stretch.{Trace, trace_of}
 use Rattle.stretch.specs.declared.Stretch.{Stretch}
 use Rattle.stretch.specs.Flat.{flat_count, first_of}
 use Rattle.stretch.proofs.Fitting.{some_drawn, few_drawn}
-use Rattle.blitter.specs.declared.Blitter.{Blitter}
 use Rattle.blitter.proofs.Sound.{Inside, first_inside}
 use Rattle.engine.specs.declared.Sofar.{Sofar}
 use Rattle.engine.specs.Tick.{ended}
-use Rattle.engine.specs.Engine.{BurstTo, Reach, ahead_row, ahead_col, after_row, after_col, level_block, stretch_at, left_at}
+use Rattle.engine.specs.Engine.{BurstTo, Reach, after_row, after_col, level_block, stretch_at, left_at}
 use Rattle.engine.proofs.Bursts.{Bursting, sofar, Stretched, reach_less, burst_left, last_row, last_col, sum, last_in, stretch_col, stretch_row, stretch_end}
 
 pub record Turned (run : Sofar) (first : List ℕ) (budget : ℕ) (now : Trace) (row col done : ℕ) : Type 0 where

@@ -1,5 +1,5 @@
 -- The place after a place of a block: each quotient and what it leaves, one further. Assumes nothing.
-use mathlib.Core.Path.{◌≡◌, sym, ap, ◌∙◌}
+use mathlib.Core.Path.{◌≡◌, ap}
 use Prim.Native.Nat.{ℕ, ◌+◌, ◌/◌, ◌%◌, ◌≤◌, ◌<◌}
 use native.Mathlib.Nat.{mod-le, div-le_self, div-eq_of_lt, mod-eq_of_lt}
 use native.Mathlib.Numerals.{add-one}

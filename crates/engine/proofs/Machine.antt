@@ -1,6 +1,5 @@
 -- Ticks one after the other: a run in pieces is one run, an idle blitter stays, and the run of the calls is this. Assumes nothing.
 use mathlib.Core.Path.{◌≡◌, refl, sym, ap, ◌∙◌}
-use mathlib.Core.Bool.{Bool, true, false, cond}
 use Prim.Native.Nat.{ℕ, zero, suc, ◌+◌, ◌≤◌, ◌<◌}
 use native.Mathlib.Nat.{add-suc, add-zero, zero-add, suc-add, add_assoc}
 use native.Mathlib.Omega.{arith}
@@ -8,7 +7,7 @@ use lib.Dec.{eqb}
 use lib.ListN.{length}
 use borrow.Author.Tests.{eq-eqb, eqb-true}
 use Rattle.laws.proofs.Choice.{by_cond}
-use Rattle.engine.specs.Tick.{tick_blitter, tick_memory, tick_count}
+use Rattle.engine.specs.Tick.{tick_blitter, tick_memory}
 use Rattle.engine.specs.Run.{Progress, ticked, onward, run_for, progress}
 use Rattle.engine.specs.Machine.{Machine, machine, tock, after}
 use Rattle.blitter.proofs.Sound.{Sound}

@@ -1,11 +1,10 @@
 -- How far a place's stretch reaches, and the place k bytes on. Assumes nothing.
-use mathlib.Core.Path.{◌≡◌, refl, sym, ap, subst, ◌∙◌}
+use mathlib.Core.Path.{◌≡◌, refl, sym, ap, ◌∙◌}
 use mathlib.Core.Bool.{true, false}
-use mathlib.Core.Logic.{inr, ⊎_elim}
+use mathlib.Core.Logic.{inr}
 use Prim.Native.Nat.{ℕ, ◌+◌, ◌-◌, ◌/◌, ◌%◌, ◌≤◌, ◌<◌, min}
 use native.Mathlib.Nat.{mod-lt, mod-one, div-one}
 use native.Mathlib.Omega.{arith}
-use Rattle.laws.proofs.Choice.{true_false}
 use Rattle.block.specs.Block.{zoom_x, pattern_of, columns_of}
 use Rattle.block.specs.declared.Block.{Block}
 use Rattle.block.proofs.Place.{far_col}

@@ -1,14 +1,9 @@
 -- Laws of a tick: it keeps soundness and memory's length, and makes at most 21 accesses on load and 3 otherwise. Assumes nothing.
 use mathlib.Core.Path.{◌≡◌, refl}
-use mathlib.Core.Bool.{cond}
 use mathlib.Core.List.{List}
-use Prim.Native.Nat.{ℕ, ◌+◌, ◌≤◌, ◌<◌}
+use Prim.Native.Nat.{ℕ, ◌≤◌, ◌<◌}
 use native.Mathlib.Omega.{arith}
-use lib.Dec.{eqb, ltb}
 use lib.ListN.{length}
-use borrow.Author.Tests.{eqb-false, ltb-true, ne_eqb}
-use Rattle.laws.proofs.Choice.{by_cond}
-use Rattle.block.specs.Block.{columns_of, rows_of, next_of}
 use Rattle.block.specs.Byte.{struck_at}
 use Rattle.block.specs.declared.Note.{Note}
 use Rattle.block.proofs.Byte.{written_length, struck_small}

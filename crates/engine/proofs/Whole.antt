@@ -1,13 +1,11 @@
 -- A block from its load to its end: the blitter and memory after n of its bytes, and after all. Assumes nothing.
 use mathlib.Core.Path.{◌≡◌, refl, sym, ap, ◌∙◌}
-use mathlib.Core.Bool.{Bool, true, false}
 use mathlib.Core.List.{List}
-use Prim.Native.Nat.{ℕ, zero, suc, ◌+◌, ◌<◌}
+use Prim.Native.Nat.{ℕ, zero, suc, ◌<◌}
 use native.Mathlib.Nat.{zero-div, zero-mod, mul-le-mul}
 use native.Mathlib.Omega.{arith}
-use lib.Dec.{ltb}
-use borrow.Author.Tests.{ltb-true, ltb-false, eq-eqb, ne_eqb, lt-ltb, le-ltb}
-use Rattle.block.specs.Block.{columns_of, rows_of, block_at}
+use borrow.Author.Tests.{eq-eqb, ne_eqb}
+use Rattle.block.specs.Block.{columns_of, block_at}
 use Rattle.block.specs.Byte.{written, struck_at, row_at, col_at, size_of, block_mem, block_note}
 use Rattle.block.specs.declared.Block.{Block}
 use Rattle.block.specs.declared.Note.{Note}
