@@ -234,11 +234,11 @@ fn leave(blitter: &mut Blitter, place: Place, note: Note)
 {
     if blitter.block.rows() as u32 <= place.row {
         end(blitter, note);
-        return;
+    } else {
+        blitter.row = place.row as u16;
+        blitter.col = place.col as u16;
+        blitter.note = note;
     }
-    blitter.row = place.row as u16;
-    blitter.col = place.col as u16;
-    blitter.note = note;
 }
 
 // Whether a block's stretches are drawn at once: they are flat, and the longest has 8 bytes or more. Shorter ones are
@@ -335,15 +335,14 @@ fn run_for(blitter: Blitter, mem: &mut [u8], budget: u32) -> Sofar
         counts: Counts::default(),
     };
     while run.counts.ticks < budget {
-        if run.blitter.flags == 0 {
-            return run;
-        }
-        if run.blitter.flags == 1 {
-            load(&mut run.blitter, mem);
-            run.counts.ticks += 1;
-            run.counts.accesses += 21;
-        } else {
-            run = run.burst(mem, budget);
+        match run.blitter.flags {
+            0 => return run,
+            1 => {
+                load(&mut run.blitter, mem);
+                run.counts.ticks += 1;
+                run.counts.accesses += 21;
+            }
+            _ => run = run.burst(mem, budget),
         }
     }
     run
