@@ -124,15 +124,6 @@ module _ {run : Sofar} {first : List ℕ} {budget : ℕ} where
 pub reach_less : (b : Block) (row col n k : ℕ) → k ≤ n → Reach b row col n → Reach b row col k
 reach_less b row col n k h = grind arith
 
--- no byte on is here
-none_row : (t : Bool) (row : ℕ) → cond t (row + 0) row ≡ row
-none_row true row = add-zero row
-none_row false row = refl
-
-none_col : (t : Bool) (col : ℕ) → cond t col (col + 0) ≡ col
-none_col true col = refl
-none_col false col = add-zero col
-
 module _ (run : Sofar) (first : List ℕ) (budget : ℕ) where
   abbrev At : Trace → ℕ → ℕ → ℕ → Type 0
   At = Bursting run first budget
@@ -188,9 +179,7 @@ module _ (run : Sofar) (first : List ℕ) (budget : ℕ) where
     -- the byte k on is reached after k turns
     turns : (k : ℕ) → Reach run.blitter.block row col (suc k) → done + k < budget → At (many k) (row_on k) (col_on k) (done + k)
     unfolding strokes
-    turns zero r h =
-        moved now now row (row_on 0) col (col_on 0) done (done + 0) refl
-        (sym (none_row (tall_of run.blitter.block) row)) (sym (none_col (tall_of run.blitter.block) col)) (sym (add-zero done)) g
+    turns zero r h = grind arith
     turns (suc k) r h =
         let before : At (many k) (row_on k) (col_on k) (done + k) = turns k (reach_less run.blitter.block row col (suc (suc k)) (suc k) (omega arith) r) (omega arith) in
         ⊎_elim (λ c. down k c h before) (λ c. along k c h before) r

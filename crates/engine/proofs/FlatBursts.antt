@@ -42,22 +42,8 @@ module _ {run : Sofar} {first : List ℕ} {budget : ℕ} {now : Trace} {row col 
 
       by_test : (t : Bool) → ltb (last_col s + 1) (columns_of run.blitter.block) ≡ t
           → Turned run first budget (sum s) (cond t (last_row s) (last_row s + 1)) (cond t (last_col s + 1) 0) (done + count)
-      by_test true t =
-          let h = ltb-true (last_col s + 1) (columns_of run.blitter.block) t in
-          record {
-            going = λ _. stretch_col s h;
-            ending = λ k. absurd (omega (arith, inside.row_in));
-            row_in = omega (arith, inside.row_in);
-            col_in = h;
-          }
-      by_test false t =
-          let h = ltb-false (last_col s + 1) (columns_of run.blitter.block) t in
-          record {
-            going = λ k. stretch_row s h k;
-            ending = λ k. stretch_end s h k;
-            row_in = omega (arith, inside.row_in);
-            col_in = (first_inside run.blitter.block).col_in;
-          }
+      by_test true t = let h = ltb-true (last_col s + 1) (columns_of run.blitter.block) t in grind (arith, inside, stretch_col s h)
+      by_test false t = let h = ltb-false (last_col s + 1) (columns_of run.blitter.block) t in grind (arith, inside, stretch_row s h, stretch_end s h, first_inside)
 
 -- as the program comes to it
 module _ {run : Sofar} {first : List ℕ} {budget : ℕ} {now : Trace} {row col done rows : ℕ} (t : Turned run first budget now row col done)
@@ -76,15 +62,4 @@ module _ {run : Sofar} {first : List ℕ} {budget : ℕ} {now : Trace} {row col 
       → {bytes : Stretch} → bytes ≡ stretch_at run.blitter.block row col most
       → {count : ℕ} {d : Trace} → count ≡ flat_count (length now.mem) run.blitter.block bytes → d ≡ trace_of run.blitter.block (first_of bytes count) now.mem now.note
       → Stretched run first budget now row col done count d
-  at_once l {reached} {most} (some, r) m {bytes} s {count} c i =
-      let room = turned_room in
-      let all = stretch_at run.blitter.block row col most in
-      let part : count ≡ flat_count (length now.mem) run.blitter.block all = c ∙ ap (flat_count (length now.mem) run.blitter.block) s in
-      let fewer : count ≤ most = rw part (few_drawn (length now.mem) run.blitter.block all (tests l)) in
-      record {
-        going = turned_going;
-        some = rw part (some_drawn (length now.mem) run.blitter.block all (tests l) (omega arith));
-        reach = reach_less run.blitter.block row col reached count (omega arith) r;
-        room = omega (arith, turned_going.within);
-        drew = i ∙ ap (λ (x : Stretch). trace_of run.blitter.block (first_of x count) now.mem now.note) s;
-      }
+  at_once l r m s c i = grind (arith, turned_room, turned_going, few_drawn, some_drawn, tests, reach_less)
