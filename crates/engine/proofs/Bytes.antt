@@ -1,13 +1,9 @@
 -- Bytes stay bytes over a tick, over n ticks and over a run: memory's, the block's and the note's. Assumes nothing.
-use mathlib.Core.Bool.{Bool, true, false, cond}
 use mathlib.Core.List.{List}
-use Prim.Native.Nat.{ℕ, ◌+◌}
+use Prim.Native.Nat.{ℕ}
 use native.Mathlib.Omega.{arith}
-use lib.Dec.{eqb, ltb}
-use Rattle.laws.proofs.Choice.{by_cond}
 use Rattle.vram.specs.Memory.{Bytes}
-use Rattle.block.specs.Block.{no_side, no_block, columns_of, rows_of}
-use Rattle.block.specs.Byte.{written}
+use Rattle.block.specs.Block.{no_side, no_block}
 use Rattle.block.specs.declared.Note.{Note}
 use Rattle.block.proofs.Byte.{note_bytes, written_bytes}
 use Rattle.block.proofs.Bytes.{SideBytes, BlockBytes, NoteBytes, block_bytes}
@@ -30,45 +26,19 @@ pub record InBytes (b : Blitter) (mem : List ℕ) : Type 0 where
 
 none_side_lem : SideBytes no_side
 unfolding no_side
-none_side_lem = record { adr0 = omega arith; adr1 = omega arith; adr2 = omega arith; y0 = omega arith; y1 = omega arith; x = omega arith }
+none_side_lem = grind arith
 
 pub none_bytes : BlockBytes no_block
 unfolding no_block
-none_bytes =
-    record {
-      source = none_side_lem;
-      dest = none_side_lem;
-      width0 = omega arith;
-      width1 = omega arith;
-      height = omega arith;
-      andmask = omega arith;
-      xormask = omega arith;
-      hitmask = omega arith;
-      zoom = omega arith;
-      pattern = omega arith;
-      control = omega arith;
-    }
+none_bytes = grind (arith, none_side_lem)
 
 advanced_held : (b : Blitter) (note : Note) → BlockBytes b.block → NoteBytes note → Held (moved_on b note)
 unfolding moved_on ended
-advanced_held b note k c =
-    by_cond Held (ltb (b.col + 1) (columns_of b.block)) _ _ (λ _. record { block_in = k; note_in = c })
-    (λ _. by_cond Held (ltb (b.row + 1) (rows_of b.block)) _ _ (λ _. record { block_in = k; note_in = c })
-    (λ _. record { block_in = none_bytes; note_in = c }))
+advanced_held b note k c = grind (arith, none_bytes)
 
 pub tick_bytes_lem : (b : Blitter) (mem : List ℕ) → InBytes b mem → InBytes (tick_blitter b mem) (tick_memory b mem)
-unfolding tick_blitter tick_memory
-tick_bytes_lem b mem h = by (eqb b.flags 0) (eqb b.flags 1)
-  where
-    by : (t u : Bool) → InBytes (cond t b (cond u (load_tick b mem) (byte_tick b mem))) (cond t mem (cond u mem (written b.block b.row b.col mem)))
-    by true u = h
-    by false true = unfold load_tick in record { cells = h.cells; held = record { block_in = block_bytes mem b.list h.cells; note_in = h.held.note_in } }
-    by false false =
-        let k = h.held.block_in in
-        unfold byte_tick in record {
-          cells = written_bytes b.block _ _ mem h.cells k.andmask k.xormask;
-          held = advanced_held b _ k (note_bytes b.block _ _ mem h.cells b.note h.held.note_in);
-        }
+unfolding tick_blitter tick_memory load_tick byte_tick
+tick_bytes_lem b mem h = grind (arith, block_bytes, written_bytes, note_bytes, advanced_held)
 
 pub after_bytes : (n : ℕ) (s : Machine) → InBytes s.blitter s.mem → InBytes (after n s).blitter (after n s).mem
 after_bytes n s = after_keeps (λ (q : Machine). InBytes q.blitter q.mem) (λ q h. unfold tock in tick_bytes_lem q.blitter q.mem h) n s

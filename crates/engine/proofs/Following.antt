@@ -1,5 +1,5 @@
 -- The place after a place of a block: each quotient and what it leaves, one further. Assumes nothing.
-use mathlib.Core.Path.{◌≡◌, sym, ap, ◌∙◌}
+use mathlib.Core.Path.{◌≡◌, ap}
 use Prim.Native.Nat.{ℕ, ◌+◌, ◌/◌, ◌%◌, ◌≤◌, ◌<◌}
 use native.Mathlib.Nat.{mod-le, div-le_self, div-eq_of_lt, mod-eq_of_lt}
 use native.Mathlib.Numerals.{add-one}
@@ -45,64 +45,43 @@ module _ (b : Block) (p : Place) (at : p ≡ place_at b p.row p.col) where
 
   -- no part is larger than the row or the column
   pub down_small : p.down ≤ p.row
-  down_small = omega (arith, down_is, mod-le p.row (zoom_y b))
+  down_small = grind (arith, mod-le, div-le_self)
 
   pub across_small : p.across ≤ p.col
-  across_small = omega (arith, across_is, mod-le p.col (zoom_x b))
+  across_small = grind (arith, mod-le, div-le_self)
 
   pub sourcerow_small : p.sourcerow ≤ p.row
-  sourcerow_small = omega (arith, sourcerow_is, div-le_self p.row (zoom_y b))
+  sourcerow_small = grind (arith, mod-le, div-le_self)
 
   pub sourcecol_small : p.sourcecol ≤ p.col
-  sourcecol_small = omega (arith, sourcecol_is, mod-le (p.col / zoom_x b) (pattern_of b), div-le_self p.col (zoom_x b))
-
-  -- a column in the given source column
-  in_column : (across sourcecol : ℕ) → across ≡ (p.col + 1) % zoom_x b → sourcecol ≡ (p.col + 1) / zoom_x b % pattern_of b
-      → record { row = p.row; col = p.col + 1; down = p.down; across = across; sourcerow = p.sourcerow; sourcecol = sourcecol } ≡ place_at b p.row (p.col + 1)
-  in_column across sourcecol e f = λ i. record { row = p.row; col = p.col + 1; down = down_is i; across = e i; sourcerow = sourcerow_is i; sourcecol = f i }
+  sourcecol_small = grind (arith, mod-le, div-le_self)
 
   -- the next column, in the same source column
   pub same_column : p.across + 1 < zoom_x b
       → record { row = p.row; col = p.col + 1; down = p.down; across = p.across + 1; sourcerow = p.sourcerow; sourcecol = p.sourcecol } ≡ place_at b p.row (p.col + 1)
-  same_column h =
-      let n = on_col (zoom_x b) zoom_x_pos p.col (rw (sym across_is) h) in
-      in_column _ _ (ap (λ (x : ℕ). x + 1) across_is ∙ sym n.1) (sourcecol_is ∙ ap (λ (x : ℕ). x % pattern_of b) (sym n.0))
+  same_column h = grind (arith, on_col, on_row, pattern_pos)
 
   module _ (h : zoom_x b ≤ p.across + 1) where
-    along : ((p.col + 1) / zoom_x b ≡ p.col / zoom_x b + 1) × ((p.col + 1) % zoom_x b ≡ 0)
-    along = on_row (zoom_x b) zoom_x_pos p.col (rw (sym across_is) h)
-
     -- in the pattern's next column
     pub next_column : p.sourcecol + 1 < pattern_of b
         → record { row = p.row; col = p.col + 1; down = p.down; across = 0; sourcerow = p.sourcerow; sourcecol = p.sourcecol + 1 } ≡ place_at b p.row (p.col + 1)
-    next_column k =
-        let n = on_col (pattern_of b) (pattern_pos b) (p.col / zoom_x b) (rw (sym sourcecol_is) k) in
-        in_column _ _ (sym along.1) (ap (λ (x : ℕ). x + 1) sourcecol_is ∙ sym n.1 ∙ ap (λ (x : ℕ). x % pattern_of b) (sym along.0))
+    next_column k = grind (arith, on_col, on_row, pattern_pos)
 
     -- in its first
     pub first_column : pattern_of b ≤ p.sourcecol + 1
         → record { row = p.row; col = p.col + 1; down = p.down; across = 0; sourcerow = p.sourcerow; sourcecol = 0 } ≡ place_at b p.row (p.col + 1)
-    first_column k =
-        let n = on_row (pattern_of b) (pattern_pos b) (p.col / zoom_x b) (rw (sym sourcecol_is) k) in
-        in_column _ _ (sym along.1) (sym n.1 ∙ ap (λ (x : ℕ). x % pattern_of b) (sym along.0))
+    first_column k = grind (arith, on_col, on_row, pattern_pos)
 
-  -- the next row's first column, in the given source row
-  in_row : (down sourcerow : ℕ) → down ≡ (p.row + 1) % zoom_y b → sourcerow ≡ (p.row + 1) / zoom_y b
-      → record { row = p.row + 1; col = 0; down = down; across = 0; sourcerow = sourcerow; sourcecol = 0 } ≡ place_at b (p.row + 1) 0
-  in_row down sourcerow e f =
-      let first : 0 ≡ 0 / zoom_x b % pattern_of b = sym (ap (λ (x : ℕ). x % pattern_of b) (div-eq_of_lt zoom_x_pos) ∙ mod-eq_of_lt (pattern_pos b)) in
-      λ i. record { row = p.row + 1; col = 0; down = e i; across = sym (mod-eq_of_lt zoom_x_pos) i; sourcerow = f i; sourcecol = first i }
-
-  -- in the same source row
+  -- the next row's first column, in the same source row
   pub same_row : p.down + 1 < zoom_y b
       → record { row = p.row + 1; col = 0; down = p.down + 1; across = 0; sourcerow = p.sourcerow; sourcecol = 0 } ≡ place_at b (p.row + 1) 0
-  same_row h =
-      let n = on_col (zoom_y b) zoom_y_pos p.row (rw (sym down_is) h) in
-      in_row _ _ (ap (λ (x : ℕ). x + 1) down_is ∙ sym n.1) (sourcerow_is ∙ sym n.0)
+  same_row h = grind (arith, on_col, on_row, div-eq_of_lt, mod-eq_of_lt, pattern_pos)
 
   -- in the next
   pub below_row : zoom_y b ≤ p.down + 1
       → record { row = p.row + 1; col = 0; down = 0; across = 0; sourcerow = p.sourcerow + 1; sourcecol = 0 } ≡ place_at b (p.row + 1) 0
-  below_row h =
-      let n = on_row (zoom_y b) zoom_y_pos p.row (rw (sym down_is) h) in
-      in_row _ _ (sym n.1) (ap (λ (x : ℕ). x + 1) sourcerow_is ∙ sym n.0)
+  below_row h = grind (arith, on_col, on_row, div-eq_of_lt, mod-eq_of_lt, pattern_pos)
+
+pub ruleset next_column_is = (same_column, next_column, first_column)
+
+pub ruleset next_row_is = (same_row, below_row)

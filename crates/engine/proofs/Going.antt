@@ -1,5 +1,5 @@
 -- What holds whenever the test of a run's loop is reached: the rest of the budget makes of it what the whole makes of the beginning. Assumes nothing.
-use mathlib.Core.Path.{◌≡◌, refl, sym, ap, ◌∙◌}
+use mathlib.Core.Path.{◌≡◌, sym, ap, ◌∙◌}
 use mathlib.Core.Bool.{true}
 use mathlib.Core.List.{List}
 use Prim.Native.Nat.{ℕ, ◌+◌, ◌-◌, ◌*◌, ◌≤◌, ◌<◌}
@@ -10,46 +10,40 @@ use Rattle.vram.specs.Memory.{good_length}
 use Rattle.blitter.specs.declared.Blitter.{Blitter}
 use Rattle.blitter.specs.State.{sound_blitter}
 use Rattle.engine.specs.Tick.{load_tick, tick_blitter, tick_memory, tick_count}
-use Rattle.engine.specs.Run.{ticked, run_for, progress, begun}
-use Rattle.engine.specs.Engine.{BurstFrom, BurstTo}
+use Rattle.engine.specs.Run.{ticked, run_for, begun}
+use Rattle.engine.specs.declared.Sofar.{Sofar}
+use Rattle.engine.specs.Engine.{so_far, BurstFrom}
 use Rattle.blitter.proofs.Sound.{sound_facts, sound_test}
 use Rattle.engine.proofs.Tick.{load_sound}
 use Rattle.engine.proofs.Runs.{run_idle, run_tick}
-use Rattle.engine.proofs.Bursts.{less}
+use Rattle.engine.proofs.Bursts.{less, sofar}
 
-pub record Going (start : Blitter) (first : List ℕ) (budget : ℕ) (b : Blitter) (mem : List ℕ) (ticks accesses : ℕ) : Type 0 where
+pub record Going (start : Blitter) (first : List ℕ) (budget : ℕ) (run : Sofar) (mem : List ℕ) : Type 0 where
   pub board : good_length (length first) ≡ true
   pub small : budget ≤ 1000000
   pub long : length mem ≡ length first
-  pub within : ticks ≤ budget
-  pub counted : accesses ≤ 21 * ticks
-  pub sound : sound_blitter b ≡ true
-  pub same : run_for (budget - ticks) (progress b mem ticks accesses) ≡ run_for budget (begun start first)
-
-whole_left : (budget : ℕ) → budget - 0 ≡ budget
-whole_left budget = omega arith
+  pub within : run.counts.ticks ≤ budget
+  pub counted : run.counts.accesses ≤ 21 * run.counts.ticks
+  pub sound : sound_blitter run.blitter ≡ true
+  pub same : run_for (budget - run.counts.ticks) (so_far run mem) ≡ run_for budget (begun start first)
 
 none_left : (budget ticks : ℕ) → budget ≤ ticks → 0 ≡ budget - ticks
 none_left budget ticks h = omega arith
 
 module _ {start : Blitter} {first : List ℕ} {budget : ℕ} where
-  pub going_start : good_length (length first) ≡ true → sound_blitter start ≡ true → budget ≤ 1000000 → Going start first budget start first 0 0
-  going_start g s h =
-      record { board = g; small = h; long = refl; within = omega arith; counted = omega arith; sound = s; same = ap (λ (k : ℕ). run_for k (begun start first)) (whole_left budget) }
-
-  module _ {b : Blitter} {mem : List ℕ} {ticks accesses : ℕ} (g : Going start first budget b mem ticks accesses) where
+  module _ {run : Sofar} {mem : List ℕ} (g : Going start first budget run mem) where
     -- the budget is used
-    pub going_used : budget ≤ ticks → progress b mem ticks accesses ≡ run_for budget (begun start first)
+    pub going_used : budget ≤ run.counts.ticks → so_far run mem ≡ run_for budget (begun start first)
     unfolding run_for
-    going_used h = ap (λ (k : ℕ). run_for k (progress b mem ticks accesses)) (none_left budget ticks h) ∙ g.same
+    going_used h = ap (λ (k : ℕ). run_for k (so_far run mem)) (none_left budget run.counts.ticks h) ∙ g.same
 
     -- the flags are 0
-    pub going_idle : b.flags ≡ 0 → progress b mem ticks accesses ≡ run_for budget (begun start first)
-    going_idle e = sym (run_idle (budget - ticks) (progress b mem ticks accesses) e) ∙ g.same
+    pub going_idle : run.blitter.flags ≡ 0 → so_far run mem ≡ run_for budget (begun start first)
+    going_idle e = sym (run_idle (budget - run.counts.ticks) (so_far run mem) e) ∙ g.same
 
-    module _ (h : ticks < budget) where
+    module _ (h : run.counts.ticks < budget) where
       -- a load
-      pub going_load : b.flags ≡ 1 → Going start first budget (load_tick b mem) mem (ticks + 1) (accesses + 21)
+      pub going_load : run.blitter.flags ≡ 1 → Going start first budget (sofar (load_tick run.blitter mem) (run.counts.ticks + 1) (run.counts.accesses + 21)) mem
       unfolding ticked tick_blitter tick_memory tick_count
       going_load e =
           record {
@@ -58,18 +52,18 @@ module _ {start : Blitter} {first : List ℕ} {budget : ℕ} where
             long = g.long;
             within = omega arith;
             counted = omega (arith, g.counted);
-            sound = sound_test _ (load_sound b mem);
+            sound = sound_test _ (load_sound run.blitter mem);
             same =
-                rw (ne_eqb b.flags 0 (omega arith), eq-eqb b.flags 1 e) at (sym (run_tick (budget - (ticks + 1)) (progress b mem ticks accesses) (omega arith)))
-                ∙ ap (λ (k : ℕ). run_for k (progress b mem ticks accesses)) (less budget ticks h)
+                rw (ne_eqb run.blitter.flags 0 (omega arith), eq-eqb run.blitter.flags 1 e) at (sym (run_tick (budget - (run.counts.ticks + 1)) (so_far run mem) (omega arith)))
+                ∙ ap (λ (k : ℕ). run_for k (so_far run mem)) (less budget run.counts.ticks h)
                 ∙ g.same;
           }
 
       -- a burst may begin
-      pub going_busy : (b.flags ≡ 0 → ⊥) → (b.flags ≡ 1 → ⊥) → BurstFrom b mem ticks accesses budget
+      pub going_busy : (run.blitter.flags ≡ 0 → ⊥) → (run.blitter.flags ≡ 1 → ⊥) → BurstFrom run mem budget
       going_busy n0 n1 =
-          let s = sound_facts b g.sound in
-          let two : b.flags ≡ 2 = omega (arith, s.flags_in) in
+          let s = sound_facts run.blitter g.sound in
+          let two : run.blitter.flags ≡ 2 = omega (arith, s.flags_in) in
           record {
             board = ap good_length g.long ∙ g.board;
             busy = two;
@@ -80,16 +74,3 @@ module _ {start : Blitter} {first : List ℕ} {budget : ℕ} where
             small = g.small;
             counted = g.counted;
           }
-
-    -- and goes on from where it ends
-    pub going_burst : (b' : Blitter) (mem' : List ℕ) (t a : ℕ) → BurstTo b mem ticks accesses budget b' mem' t a → Going start first budget b' mem' t a
-    going_burst b' mem' t a to =
-        record {
-          board = g.board;
-          small = g.small;
-          long = to.long ∙ g.long;
-          within = to.within;
-          counted = to.counted;
-          sound = to.sound;
-          same = to.same ∙ g.same;
-        }

@@ -11,6 +11,5 @@ mod Going
 pub mod Machine
 pub mod Whole
 pub mod Bytes
-pub mod Answer
 pub mod Pieces
 pub mod Once

@@ -1,6 +1,5 @@
 -- Ticks one after the other: a run in pieces is one run, an idle blitter stays, and the run of the calls is this. Assumes nothing.
 use mathlib.Core.Path.{◌≡◌, refl, sym, ap, ◌∙◌}
-use mathlib.Core.Bool.{Bool, true, false, cond}
 use Prim.Native.Nat.{ℕ, zero, suc, ◌+◌, ◌≤◌, ◌<◌}
 use native.Mathlib.Nat.{add-suc, add-zero, zero-add, suc-add, add_assoc}
 use native.Mathlib.Omega.{arith}
@@ -8,7 +7,7 @@ use lib.Dec.{eqb}
 use lib.ListN.{length}
 use borrow.Author.Tests.{eq-eqb, eqb-true}
 use Rattle.laws.proofs.Choice.{by_cond}
-use Rattle.engine.specs.Tick.{tick_blitter, tick_memory, tick_count}
+use Rattle.engine.specs.Tick.{tick_blitter, tick_memory}
 use Rattle.engine.specs.Run.{Progress, ticked, onward, run_for, progress}
 use Rattle.engine.specs.Machine.{Machine, machine, tock, after}
 use Rattle.blitter.proofs.Sound.{Sound}
@@ -92,24 +91,17 @@ run_count (suc n) r h =
 
 -- and never more than the budget
 pub run_most : (n : ℕ) (r : Progress) → (run_for n r).ticks ≤ r.ticks + n
-unfolding run_for
+unfolding run_for onward ticked
 run_most zero r = omega arith
-run_most (suc n) r = omega (arith, run_most n (onward r), one)
-  where
-    one : (onward r).ticks ≤ r.ticks + 1
-    one = unfold onward in by_cond (λ (q : Progress). q.ticks ≤ r.ticks + 1) (eqb r.blitter.flags 0) r (ticked r) (λ _. omega arith) (λ _. unfold ticked in omega arith)
+run_most (suc n) r = grind (arith, run_most n (onward r))
 
 -- counts that were there before stay in front
 abbrev pub further : ℕ → ℕ → Progress → Progress
 further t a r = progress r.blitter r.mem (t + r.ticks) (a + r.accesses)
 
 onward_further : (t a : ℕ) (r : Progress) → onward (further t a r) ≡ further t a (onward r)
-unfolding onward
-onward_further t a r = by (eqb r.blitter.flags 0)
-  where
-    by : (test : Bool) → cond test (further t a r) (ticked (further t a r)) ≡ further t a (cond test r (ticked r))
-    by true = refl
-    by false = unfold ticked in rw (add_assoc t r.ticks 1, add_assoc a r.accesses (tick_count r.blitter r.mem))
+unfolding onward ticked
+onward_further t a r = grind (arith, add_assoc)
 
 pub run_further : (n t a : ℕ) (r : Progress) → run_for n (further t a r) ≡ further t a (run_for n r)
 unfolding run_for

@@ -6,6 +6,7 @@ use Prim.Native.Nat.{ℕ, ◌+◌, ◌≤◌}
 use native.Mathlib.Nat.{add-zero}
 use native.Mathlib.Omega.{arith}
 use lib.ListN.{length}
+use borrow.Author.Tests.{le-leb}
 use Rattle.refusal.specs.Sheet.{Told, done, refused}
 use Rattle.vram.specs.Memory.{good_length}
 use Rattle.blitter.specs.declared.Blitter.{Blitter}
@@ -13,7 +14,6 @@ use Rattle.engine.specs.declared.Counts.{Counts}
 use Rattle.engine.specs.Run.{Progress, run_for, begun, counted, engine_answer, engine_blitter, engine_memory}
 use Rattle.engine.specs.Machine.{Machine, machine, after}
 use Rattle.blitter.proofs.Sound.{Sound, sound_test}
-use Rattle.engine.proofs.Answer.{Gives, ran}
 use Rattle.engine.proofs.Machine.{after_add, after_sound, after_length, run_after, run_add, further, run_further}
 
 -- a run that none of its refusals meets
@@ -29,15 +29,14 @@ added (done c) (refused number item) = refused number item
 added (refused number item) told = refused number item
 
 module _ {b : Blitter} {mem : List ℕ} {n : ℕ} (t : Taken b mem n) where
-  gives : Gives b mem n (counted (run_for n (begun b mem))) (run_for n (begun b mem)).blitter (run_for n (begun b mem)).mem
-  gives = ran b mem n t.good (sound_test b t.sound) t.small
-
   pub taken_answer : engine_answer b mem n ≡ counted (run_for n (begun b mem))
-  taken_answer = sym gives.0
+  unfolding engine_answer
+  taken_answer = simp (t.good, sound_test b t.sound, le-leb n 1000000 t.small)
 
   -- what it leaves is what n ticks leave
   pub taken_machine : machine (engine_blitter b mem n) (engine_memory b mem n) ≡ after n (machine b mem)
-  taken_machine = sym (λ i. machine (gives.1.0 i) (gives.1.1 i)) ∙ run_after n (begun b mem)
+  unfolding engine_blitter engine_memory
+  taken_machine = rw taken_answer (run_after n (begun b mem))
 
   pub taken_sound : Sound (engine_blitter b mem n)
   taken_sound = subst (λ (s : Machine). Sound s.blitter) (sym taken_machine) (after_sound n (machine b mem) t.sound)
@@ -64,18 +63,12 @@ module _ {b : Blitter} {mem : List ℕ} (m n : ℕ) (t : Taken b mem (m + n)) wh
   first_taken = record { good = t.good; sound = t.sound; small = omega (arith, t.small) }
 
   pub second_taken : Taken (engine_blitter b mem m) (engine_memory b mem m) n
-  second_taken =
-      record {
-        good = ap good_length (taken_length first_taken) ∙ t.good;
-        sound = taken_sound first_taken;
-        small = omega (arith, t.small);
-      }
+  second_taken = grind (arith, taken_length, taken_sound, first_taken)
 
   pub pieces_machine :
       machine (engine_blitter (engine_blitter b mem m) (engine_memory b mem m) n) (engine_memory (engine_blitter b mem m) (engine_memory b mem m) n)
       ≡ machine (engine_blitter b mem (m + n)) (engine_memory b mem (m + n))
-  pieces_machine =
-      taken_machine second_taken ∙ ap (after n) (taken_machine first_taken) ∙ sym (after_add m n (machine b mem)) ∙ sym (taken_machine t)
+  pieces_machine = grind (arith, taken_machine, first_taken, second_taken, after_add)
 
   pub pieces_blitter : engine_blitter (engine_blitter b mem m) (engine_memory b mem m) n ≡ engine_blitter b mem (m + n)
   pieces_blitter = ap (λ (s : Machine). s.blitter) pieces_machine

@@ -1,75 +1,41 @@
 -- How far a place's stretch reaches, and the place k bytes on. Assumes nothing.
-use mathlib.Core.Path.{◌≡◌, refl, sym, ap, subst, ◌∙◌}
+use mathlib.Core.Path.{◌≡◌, refl, sym, ap, ◌∙◌}
 use mathlib.Core.Bool.{true, false}
-use mathlib.Core.Logic.{inl, inr, ⊎_elim}
-use Prim.Native.Nat.{ℕ, ◌+◌, ◌-◌, ◌/◌, ◌%◌, ◌≤◌, ◌<◌}
+use mathlib.Core.Logic.{inr}
+use Prim.Native.Nat.{ℕ, ◌+◌, ◌-◌, ◌/◌, ◌%◌, ◌≤◌, ◌<◌, min}
 use native.Mathlib.Nat.{mod-lt, mod-one, div-one}
 use native.Mathlib.Omega.{arith}
-use lib.Dec.{eqb}
-use borrow.Author.Tests.{eqb-true, lt-ltb, le-ltb}
-use Rattle.laws.proofs.Choice.{both, true_false}
-use Rattle.block.specs.Block.{zoom_x, zoom_y, pattern_of, columns_of, rows_of}
+use Rattle.block.specs.Block.{zoom_x, pattern_of, columns_of}
 use Rattle.block.specs.declared.Block.{Block}
 use Rattle.block.proofs.Place.{far_col}
 use Rattle.block.proofs.Sizes.{columns_small, rows_small, pattern_pos}
-use Rattle.blitter.proofs.Sound.{Inside}
+use Rattle.blitter.proofs.Sound.{Inside, first_inside}
 use Rattle.engine.specs.declared.Place.{Place}
-use Rattle.engine.specs.Engine.{place_at, Placed, Column, Row, Reach, tall_of, ahead_row, ahead_col, after_row, after_col}
-use Rattle.engine.proofs.Following.{down_is, across_is, sourcerow_is, sourcecol_is}
+use Rattle.engine.specs.Engine.{place_at, Placed, Column, Row, Reach, tall_of, ahead_row, ahead_col}
+use Rattle.engine.proofs.Following.{down_is, across_is, sourcerow_is, sourcecol_is, across_small, sourcerow_small, sourcecol_small}
 
 module _ {b : Block} {p : Place} (q : Placed b p) where
   zoom_x_pos : 0 < zoom_x b
   zoom_x_pos = omega arith
 
-  pub across_in : p.across < zoom_x b
-  across_in = rw (across_is b p q.at) (mod-lt p.col zoom_x_pos)
-
   pub sourcecol_in : p.sourcecol < pattern_of b
-  sourcecol_in = rw (sourcecol_is b p q.at) (mod-lt (p.col / zoom_x b) (pattern_pos b))
+  sourcecol_in = grind (arith, mod-lt, pattern_pos)
 
-  module _ {n : ℕ} where
-    pub reach_down : tall_of b ≡ true → n ≡ rows_of b - p.row → (0 < n) × Reach b p.row p.col n
-    reach_down t e = (omega (arith, q.row_in), inl (record { tall = t; left = omega (arith, q.row_in) }))
-
-    module _ (t : tall_of b ≡ false) (some : 0 < n) (left : n ≤ columns_of b - p.col) where
-      pub reach_plain : zoom_x b ≡ 1 → n ≤ pattern_of b - p.sourcecol → (0 < n) × Reach b p.row p.col n
-      reach_plain e h =
-          (some, inr (record { wide = t; left = omega (arith, q.col_in); plain = λ _. omega (arith, sourcecol_is b p q.at, sourcecol_in); zoomed = λ f. absurd (f e) }))
-
-      pub reach_zoomed : (zoom_x b ≡ 1 → ⊥) → n ≤ zoom_x b - p.across → (0 < n) × Reach b p.row p.col n
-      reach_zoomed f h =
-          (some, inr (record { wide = t; left = omega (arith, q.col_in); plain = λ e. absurd (f e); zoomed = λ _. omega (arith, across_is b p q.at, across_in) }))
+  pub reach_plain : tall_of b ≡ false → zoom_x b ≡ 1 → {n : ℕ} → n ≡ min (columns_of b - p.col) (pattern_of b - p.sourcecol) → (0 < n) × Reach b p.row p.col n
+  reach_plain t e {n} m =
+      let least : (0 < n) × (n ≤ columns_of b - p.col) × (n ≤ pattern_of b - p.sourcecol) = (omega (arith, q.col_in, sourcecol_in), omega arith, omega arith) in
+      (least.0, inr (record { wide = t; left = omega (arith, least.1, q.col_in); plain = λ _. omega (arith, least.2, sourcecol_is b p q.at, sourcecol_in); zoomed = λ f. absurd (f e) }))
 
   module _ (k : ℕ) (r : Reach b p.row p.col (k + 1)) where
     as_column : tall_of b ≡ true → Column b p.row (k + 1)
-    as_column t = ⊎_elim (λ c. c) (λ w. true_false (sym t ∙ w.wide)) r
+    as_column t = grind arith
 
     as_row : tall_of b ≡ false → Row b p.col (k + 1)
-    as_row f = ⊎_elim (λ c. true_false (sym c.tall ∙ f)) (λ w. w) r
+    as_row f = grind arith
 
-    -- what is in reach is small
-    pub row_room : tall_of b ≡ true → p.row + k < rows_of b
-    row_room t = omega (arith, (as_column t).left)
-
-    pub col_room : tall_of b ≡ false → p.col + k < columns_of b
-    col_room f = omega (arith, (as_row f).left)
-
-    -- and inside the block
+    -- what is in reach is inside the block
     pub ahead_in : Inside b (ahead_row b p.row k) (ahead_col b p.col k)
-    ahead_in =
-        ⊎_elim
-        (λ c. rw c.tall (record { row_in = omega (arith, c.left); col_in = q.col_in }))
-        (λ w. rw w.wide (record { row_in = q.row_in; col_in = omega (arith, w.left) }))
-        r
-
-    pub ahead_down : tall_of b ≡ true
-        → record { row = p.row + k; col = p.col; down = p.down; across = p.across; sourcerow = p.sourcerow + k; sourcecol = p.sourcecol }
-        ≡ place_at b (ahead_row b p.row k) (ahead_col b p.col k)
-    ahead_down t =
-        let flat : zoom_y b ≡ 1 = eqb-true (zoom_y b) 1 (both (eqb (columns_of b) 1) (eqb (zoom_y b) 1) t).1 in
-        let same : p.down ≡ (p.row + k) % zoom_y b = down_is b p q.at ∙ rw (flat, mod-one p.row, mod-one (p.row + k)) refl in
-        let on : p.sourcerow + k ≡ (p.row + k) / zoom_y b = ap (λ (x : ℕ). x + k) (sourcerow_is b p q.at) ∙ rw (flat, div-one p.row, div-one (p.row + k)) refl in
-        rw t (λ i. record { row = p.row + k; col = p.col; down = same i; across = across_is b p q.at i; sourcerow = on i; sourcecol = sourcecol_is b p q.at i })
+    ahead_in = grind arith
 
     -- along a row, in the given source column
     ahead_along : tall_of b ≡ false → (across sourcecol : ℕ) → across ≡ (p.col + k) % zoom_x b → sourcecol ≡ (p.col + k) / zoom_x b % pattern_of b
@@ -104,20 +70,19 @@ module _ {b : Block} {p : Place} (q : Placed b p) {count : ℕ} (some : 0 < coun
   last_at = rw e refl
 
   pub last_inside : Inside b l.row l.col
-  last_inside =
-      let one : count ≡ count - 1 + 1 = omega arith in
-      rw e (ahead_in q (count - 1) (subst (Reach b p.row p.col) one r))
+  last_inside = grind (arith, ahead_in)
 
-  pub behind_col : l.col + 1 < columns_of b → place_at b l.row (l.col + 1) ≡ place_at b (after_row b p.row p.col count) (after_col b p.col count)
-  behind_col h =
-      let near : ahead_col b p.col (count - 1) + 1 < columns_of b = omega (arith, ap (λ (x : Place). x.col) e) in
-      rw (e, lt-ltb (ahead_col b p.col (count - 1) + 1) (columns_of b) near)
-
-  pub behind_row : columns_of b ≤ l.col + 1 → place_at b (l.row + 1) 0 ≡ place_at b (after_row b p.row p.col count) (after_col b p.col count)
-  behind_row h =
-      let far : columns_of b ≤ ahead_col b p.col (count - 1) + 1 = omega (arith, ap (λ (x : Place). x.col) e) in
-      rw (e, le-ltb (ahead_col b p.col (count - 1) + 1) (columns_of b) far)
+-- a block's first place is inside it
+pub first_placed : (b : Block) (p : Place) → p ≡ place_at b 0 0 → Placed b p
+first_placed b p e = let first = first_inside b in rw e (record { at = refl; row_in = first.row_in; col_in = first.col_in })
 
 -- no reach is long
 pub reach_small : (b : Block) (row col n : ℕ) → b.height < 256 → b.width0 < 256 → Reach b row col n → n ≤ 4096
-reach_small b row col n h w = ⊎_elim (λ c. omega (arith, c.left, rows_small b h)) (λ r. omega (arith, r.left, columns_small b w))
+reach_small b row col n h w = grind (arith, rows_small, columns_small)
+
+-- a place inside its block is small, and so is what is in reach of it
+pub ruleset small = (columns_small, rows_small, across_small, sourcerow_small, sourcecol_small, reach_small)
+
+pub ruleset ahead_is = (ahead_plain, ahead_zoomed)
+
+pub ruleset last_is = (last_at, last_inside)

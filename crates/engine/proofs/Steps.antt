@@ -48,9 +48,7 @@ module _ (b : Block) (row col k : ℕ) where
         rw (one, (far_col (pattern_of b) (pattern_pos b) (col / zoom_x b) k near).1) (across_on b.source (row / zoom_y b) (col / zoom_x b % pattern_of b) k)
 
     zoomed_on : (zoom_x b ≡ 1 → ⊥) → Goal 0
-    zoomed_on n =
-        let near : col % zoom_x b + k < zoom_x b = omega (arith, r.zoomed n) in
-        rw ((far_col (zoom_x b) (omega arith) col k near).0, mul-zero k) (side_19 b.source (row / zoom_y b) (col / zoom_x b % pattern_of b))
+    zoomed_on n = grind (arith, far_col, mul-zero, side_19)
 
     row_on : source_address b (ahead_row b row k) (ahead_col b col k) ≡ (source_address b row col + k * source_step b) % 524288
     unfolding source_address

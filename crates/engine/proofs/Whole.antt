@@ -1,13 +1,11 @@
 -- A block from its load to its end: the blitter and memory after n of its bytes, and after all. Assumes nothing.
 use mathlib.Core.Path.{◌≡◌, refl, sym, ap, ◌∙◌}
-use mathlib.Core.Bool.{Bool, true, false}
 use mathlib.Core.List.{List}
-use Prim.Native.Nat.{ℕ, zero, suc, ◌+◌, ◌<◌}
+use Prim.Native.Nat.{ℕ, zero, suc, ◌<◌}
 use native.Mathlib.Nat.{zero-div, zero-mod, mul-le-mul}
 use native.Mathlib.Omega.{arith}
-use lib.Dec.{ltb}
-use borrow.Author.Tests.{ltb-true, ltb-false, eq-eqb, ne_eqb, lt-ltb, le-ltb}
-use Rattle.block.specs.Block.{columns_of, rows_of, block_at}
+use borrow.Author.Tests.{eq-eqb, ne_eqb}
+use Rattle.block.specs.Block.{columns_of, block_at}
 use Rattle.block.specs.Byte.{written, struck_at, row_at, col_at, size_of, block_mem, block_note}
 use Rattle.block.specs.declared.Block.{Block}
 use Rattle.block.specs.declared.Note.{Note}
@@ -35,25 +33,12 @@ module _ (b : Blitter) where
     -- the next byte
     next_on : suc n < size_of b.block → moved_on (busy_on b note n) next ≡ busy_on b next (suc n)
     unfolding moved_on
-    next_on l = by (ltb (col_at b.block n + 1) (columns_of b.block)) refl
-      where
-        by : (t : Bool) → ltb (col_at b.block n + 1) (columns_of b.block) ≡ t → moved_on (busy_on b note n) next ≡ busy_on b next (suc n)
-        by true e =
-            let p = next_col (columns_of b.block) (columns_pos b.block) n (ltb-true _ _ e) in
-            rw (e, p.0, p.1)
-        by false e =
-            let h = ltb-false _ _ e in
-            let p = next_row (columns_of b.block) (columns_pos b.block) n h in
-            rw (e, lt-ltb _ _ (more_rows (columns_of b.block) (columns_pos b.block) (rows_of b.block) n l h), p.0, p.1)
+    next_on l = grind (arith, next_col, next_row, more_rows, columns_pos)
 
     -- the end
     last_on : suc n ≡ size_of b.block → moved_on (busy_on b note n) next ≡ ended b next
     unfolding moved_on ended
-    last_on l =
-        rw (
-          le-ltb _ _ (no_column (columns_of b.block) (columns_pos b.block) (rows_of b.block) n l),
-          le-ltb _ _ (no_row (columns_of b.block) (columns_pos b.block) (rows_of b.block) n l),
-        )
+    last_on l = grind (arith, no_column, no_row, columns_pos)
 
   module _ (note : Note) (mem : List ℕ) where
     -- the tick of the n-th byte, and what it makes of the blitter

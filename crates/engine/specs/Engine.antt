@@ -10,8 +10,9 @@ use Rattle.stretch.specs.Flat.{level_of}
 use Rattle.blitter.specs.declared.Blitter.{Blitter}
 use Rattle.blitter.specs.State.{sound_blitter, with_work, with_note}
 use Rattle.engine.specs.declared.Place.{Place}
+use Rattle.engine.specs.declared.Sofar.{Sofar}
 use Rattle.engine.specs.Tick.{ended}
-use Rattle.engine.specs.Run.{run_for, progress}
+use Rattle.engine.specs.Run.{Progress, run_for, progress}
 
 -- a place in a block, with "floor(row/ZY)" and "floor(col/ZX) mod Q", and what those divisions leave
 abbrev pub place_at : Block → ℕ → ℕ → Place
@@ -91,22 +92,26 @@ left_at b row col note =
     (ended b note)
     (with_work b.flags b.block row col (with_note note b))
 
+-- a run so far, with its memory, in the words of a run
+abbrev pub so_far : Sofar → List ℕ → Progress
+so_far r mem = progress r.blitter mem r.counts.ticks r.counts.accesses
+
 -- what a burst is handed: a busy blitter, and budget left
-pub record BurstFrom (b : Blitter) (mem : List ℕ) (ticks accesses budget : ℕ) : Type 0 where
+pub record BurstFrom (r : Sofar) (mem : List ℕ) (budget : ℕ) : Type 0 where
   pub board : good_length (length mem) ≡ true
-  pub busy : b.flags ≡ 2
-  pub list : b.list < 524288
-  pub row : b.row < rows_of b.block
-  pub col : b.col < columns_of b.block
-  pub left : ticks < budget
+  pub busy : r.blitter.flags ≡ 2
+  pub list : r.blitter.list < 524288
+  pub row : r.blitter.row < rows_of r.blitter.block
+  pub col : r.blitter.col < columns_of r.blitter.block
+  pub left : r.counts.ticks < budget
   pub small : budget ≤ 1000000
-  pub counted : accesses ≤ 21 * ticks
+  pub counted : r.counts.accesses ≤ 21 * r.counts.ticks
 
 -- what it gives: the rest of the budget makes of this what the whole makes of what was handed in
-pub record BurstTo (b : Blitter) (mem : List ℕ) (ticks accesses budget : ℕ) (b' : Blitter) (mem' : List ℕ) (ticks' accesses' : ℕ) : Type 0 where
-  pub sound : sound_blitter b' ≡ true
+pub record BurstTo (r : Sofar) (mem : List ℕ) (budget : ℕ) (r' : Sofar) (mem' : List ℕ) : Type 0 where
+  pub sound : sound_blitter r'.blitter ≡ true
   pub long : length mem' ≡ length mem
-  pub further : ticks < ticks'
-  pub within : ticks' ≤ budget
-  pub counted : accesses' ≤ 21 * ticks'
-  pub same : run_for (budget - ticks') (progress b' mem' ticks' accesses') ≡ run_for (budget - ticks) (progress b mem ticks accesses)
+  pub further : r.counts.ticks < r'.counts.ticks
+  pub within : r'.counts.ticks ≤ budget
+  pub counted : r'.counts.accesses ≤ 21 * r'.counts.ticks
+  pub same : run_for (budget - r'.counts.ticks) (so_far r' mem') ≡ run_for (budget - r.counts.ticks) (so_far r mem)

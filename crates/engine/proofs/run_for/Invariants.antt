@@ -3,8 +3,8 @@ use Prim.Native.Nat.{◌-◌}
 use Rattle.engine.proofs.Going.{Going}
 use Rattle.engine.proofs.run_for.Given as goal
 
-abbrev pub invariant-loop-ticks : goal.invariant-loop-ticks
-invariant-loop-ticks l = Going l.initial.blitter l.initial.mem l.budget l.blitter l.mem l.ticks l.accesses
+abbrev pub invariant-loop-run : goal.invariant-loop-run
+invariant-loop-run l = Going l.initial.run.blitter l.initial.mem l.budget l.run l.mem
 
-abbrev pub decreases-loop-ticks : goal.decreases-loop-ticks
-decreases-loop-ticks l = l.budget - l.ticks
+abbrev pub decreases-loop-run : goal.decreases-loop-run
+decreases-loop-run l = l.budget - l.run.counts.ticks
