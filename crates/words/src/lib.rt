@@ -1,8 +1,31 @@
-// A lent buffer of words: whether the words fit, and words laid over it.
+// A lent buffer of words: a word as a field, whether the words fit, and words laid over it.
 #![tactic(auto)]
 
-ghost use Rattle.std.specs.Prelude.{◌≡◌, min, length};
-ghost use Rattle.words.specs.Words.{within, laid};
+ghost use Rattle.std.specs.Prelude.{◌≡◌, ◌<◌, ◌≤◌, ◌*◌, ◌^◌, min, length};
+ghost use Rattle.std.specs.Fn.{FnReturnsAt};
+ghost use Rattle.words.specs.Words.{SameWords, byte_in, half_in, switch_in, within, laid};
+
+// A word as a byte, as 16 bits and as a switch.
+pub fn byte(words: &[u32], k: usize) -> u8
+    requires { k < length words.now }
+    ensures { result ≡ byte_in words.now k }
+{
+    (words[k] % 256) as u8
+}
+
+pub fn half(words: &[u32], k: usize) -> u16
+    requires { k < length words.now }
+    ensures { result ≡ half_in words.now k }
+{
+    (words[k] % 65536) as u16
+}
+
+pub fn switch(words: &[u32], k: usize) -> bool
+    requires { k < length words.now }
+    ensures { result ≡ switch_in words.now k }
+{
+    words[k] == 1
+}
 
 // The test of the words that are there, n of them. The loop asks for no bound: the compiler takes many words a step.
 fn there_within(words: &[u32], most: &[u32], n: usize) -> bool
@@ -10,10 +33,8 @@ fn there_within(words: &[u32], most: &[u32], n: usize) -> bool
     ensures { result ≡ within most.now words.now 0 }
 {
     let mut all = true;
-    let mut i = 0;
-    while i < n {
+    for i in 0..n {
         all = all & (words[i] <= most[i]);
-        i += 1;
     }
     all
 }
@@ -36,9 +57,21 @@ pub fn lay(words: &mut [u32], new: &[u32])
     if words.len() < new.len() {
         return;
     }
-    let mut i = 0;
-    while i < new.len() {
+    for i in 0..new.len() {
         words[i] = new[i];
-        i += 1;
     }
+}
+
+// What is read of N words. Words that are missing are 0: they are filled up first, so that a word that is read needs no test (docs/SPEED.md).
+pub fn read_whole<T, F: Fn(&[u32]) -> T, const N: usize>(words: &[u32], read: F) -> T
+    requires size { N * 4 < 2 ^ 63 }
+    requires reads { (whole : _) → N ≤ length whole.now → F.pre read whole }
+    ensures { (whole : _) × (N ≤ length whole) × SameWords whole words.now × FnReturnsAt F.Fn read whole result }
+{
+    if words.len() < N {
+        let mut whole = [0; N];
+        lay(&mut whole, words);
+        return read(&whole);
+    }
+    read(words)
 }
