@@ -9,7 +9,7 @@ use blitter::Blitter;
 use block::{Block, Note};
 use board::{Board, Ports};
 use step::Side;
-use words::{all_within, byte, half, lay, read_whole, switch};
+use words::{all_within, byte, half, lay, read_whole};
 
 // The words of a board.
 pub const BOARD_WORDS: usize = 35;
@@ -20,13 +20,13 @@ fn ports_of(words: &[u32]) -> Ports
     ensures { result ≡ ports_of words.now }
 {
     Ports {
-        video: byte(words, 0),
+        video: byte(words[0]),
         xdladr: words[1],
         bladr: words[2],
-        p0: byte(words, 3),
-        p1: byte(words, 4),
-        p2: byte(words, 5),
-        p3: byte(words, 6),
+        p0: byte(words[3]),
+        p1: byte(words[4]),
+        p2: byte(words[5]),
+        p3: byte(words[6]),
     }
 }
 
@@ -37,12 +37,12 @@ fn side_of(words: &[u32], k: usize) -> Side
     ensures { result ≡ side_of words.now k }
 {
     Side {
-        adr0: byte(words, k),
-        adr1: byte(words, k + 1),
-        adr2: byte(words, k + 2),
-        y0: byte(words, k + 3),
-        y1: byte(words, k + 4),
-        x: byte(words, k + 5),
+        adr0: byte(words[k]),
+        adr1: byte(words[k + 1]),
+        adr2: byte(words[k + 2]),
+        y0: byte(words[k + 3]),
+        y1: byte(words[k + 4]),
+        x: byte(words[k + 5]),
     }
 }
 
@@ -54,15 +54,15 @@ fn block_of(words: &[u32]) -> Block
     Block {
         source: side_of(words, 12),
         dest: side_of(words, 18),
-        width0: byte(words, 24),
-        width1: byte(words, 25),
-        height: byte(words, 26),
-        andmask: byte(words, 27),
-        xormask: byte(words, 28),
-        hitmask: byte(words, 29),
-        zoom: byte(words, 30),
-        pattern: byte(words, 31),
-        control: byte(words, 32),
+        width0: byte(words[24]),
+        width1: byte(words[25]),
+        height: byte(words[26]),
+        andmask: byte(words[27]),
+        xormask: byte(words[28]),
+        hitmask: byte(words[29]),
+        zoom: byte(words[30]),
+        pattern: byte(words[31]),
+        control: byte(words[32]),
     }
 }
 
@@ -72,16 +72,16 @@ fn blitter_of(words: &[u32]) -> Blitter
     ensures { result ≡ blitter_of words.now }
 {
     Blitter {
-        irqe: switch(words, 7),
-        irqf: switch(words, 8),
+        irqe: words[7] == 1,
+        irqf: words[8] == 1,
         list: words[9],
-        flags: byte(words, 10),
+        flags: byte(words[10]),
         note: Note {
-            code: byte(words, 11),
+            code: byte(words[11]),
         },
         block: block_of(words),
-        row: half(words, 33),
-        col: half(words, 34),
+        row: half(words[33]),
+        col: half(words[34]),
     }
 }
 

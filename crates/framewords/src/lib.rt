@@ -8,7 +8,7 @@ ghost use Rattle.framewords.specs.Frame.{settings_size, frame_size, overlay_of, 
 use frame::Frame;
 use record::Reader;
 use settings::{Look, Map, Overlay, Settings};
-use words::{all_within, byte, half, lay, read_whole, switch};
+use words::{all_within, byte, half, lay, read_whole};
 
 // The words of a line's settings, and of a frame.
 pub const SETTINGS_WORDS: usize = 20;
@@ -21,13 +21,13 @@ fn overlay_of(words: &[u32]) -> Overlay
     ensures { result ≡ overlay_of words.now }
 {
     Overlay {
-        mode: byte(words, 0),
+        mode: byte(words[0]),
         address: words[1],
-        step: half(words, 2),
-        hscroll: byte(words, 3),
-        vscroll: byte(words, 4),
-        font: byte(words, 5),
-        counter: byte(words, 6),
+        step: half(words[2]),
+        hscroll: byte(words[3]),
+        vscroll: byte(words[4]),
+        font: byte(words[5]),
+        counter: byte(words[6]),
     }
 }
 
@@ -37,14 +37,14 @@ fn map_of(words: &[u32]) -> Map
     ensures { result ≡ map_of words.now }
 {
     Map {
-        on: switch(words, 7),
+        on: words[7] == 1,
         address: words[8],
-        step: half(words, 9),
-        hscroll: byte(words, 10),
-        vscroll: byte(words, 11),
-        width: byte(words, 12),
-        height: byte(words, 13),
-        counter: byte(words, 14),
+        step: half(words[9]),
+        hscroll: byte(words[10]),
+        vscroll: byte(words[11]),
+        width: byte(words[12]),
+        height: byte(words[13]),
+        counter: byte(words[14]),
     }
 }
 
@@ -54,10 +54,10 @@ fn look_of(words: &[u32]) -> Look
     ensures { result ≡ look_of words.now }
 {
     Look {
-        width: byte(words, 15),
-        palette: byte(words, 16),
-        playfield: byte(words, 17),
-        priority: byte(words, 18),
+        width: byte(words[15]),
+        palette: byte(words[16]),
+        playfield: byte(words[17]),
+        priority: byte(words[18]),
     }
 }
 
@@ -129,11 +129,11 @@ fn read_frame(words: &[u32]) -> Frame
         reader: Reader {
             settings: read_settings(words),
             position: words[20],
-            repeat: byte(words, 21),
-            ended: switch(words, 23),
+            repeat: byte(words[21]),
+            ended: words[23] == 1,
         },
-        line: half(words, 22),
-        on: switch(words, 24),
+        line: half(words[22]),
+        on: words[24] == 1,
     }
 }
 

@@ -15,8 +15,6 @@ use Rattle.words.proofs.byte.Kinds as byte_kinds
 use Rattle.words.proofs.byte.Reads as byte_reads
 use Rattle.words.proofs.half.Kinds as half_kinds
 use Rattle.words.proofs.half.Reads as half_reads
-use Rattle.words.proofs.switch.Kinds as switch_kinds
-use Rattle.words.proofs.switch.Reads as switch_reads
 use Rattle.words.proofs.there_within.Kinds as there_within_kinds
 use Rattle.words.proofs.there_within.Reads as there_within_reads
 use Rattle.words.proofs.all_within.Kinds as all_within_kinds
@@ -26,14 +24,11 @@ use Rattle.words.proofs.lay.Reads as lay
 use Rattle.words.proofs.read_whole.Kinds as read_whole_kinds
 use Rattle.words.proofs.read_whole.Reads as read_whole_reads
 
-byte_once : OneAnswer 1 byte_kinds.ps byte_kinds.r byte_reads.Post
+byte_once : OneAnswer 0 byte_kinds.ps byte_kinds.r byte_reads.Post
 byte_once κs a x y s t p q = p ∙ sym q
 
-half_once : OneAnswer 1 half_kinds.ps half_kinds.r half_reads.Post
+half_once : OneAnswer 0 half_kinds.ps half_kinds.r half_reads.Post
 half_once κs a x y s t p q = p ∙ sym q
-
-switch_once : OneAnswer 1 switch_kinds.ps switch_kinds.r switch_reads.Post
-switch_once κs a x y s t p q = p ∙ sym q
 
 there_within_once : OneAnswer 2 there_within_kinds.ps there_within_kinds.r there_within_reads.Post
 there_within_once κs a x y s t p q = p ∙ sym q

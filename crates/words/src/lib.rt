@@ -1,30 +1,21 @@
 // A lent buffer of words: a word as a field, whether the words fit, and words laid over it.
 #![tactic(auto)]
 
-ghost use Rattle.std.specs.Prelude.{◌≡◌, ◌<◌, ◌≤◌, ◌*◌, ◌^◌, min, length};
+ghost use Rattle.std.specs.Prelude.{◌≡◌, ◌<◌, ◌≤◌, ◌*◌, ◌%◌, ◌^◌, min, length};
 ghost use Rattle.std.specs.Fn.{FnReturnsAt};
-ghost use Rattle.words.specs.Words.{SameWords, byte_in, half_in, switch_in, within, laid};
+ghost use Rattle.words.specs.Words.{SameWords, within, laid};
 
-// A word as a byte, as 16 bits and as a switch.
-pub fn byte(words: &[u32], k: usize) -> u8
-    requires { k < length words.now }
-    ensures { result ≡ byte_in words.now k }
+// A word as a byte, and as 16 bits.
+pub fn byte(word: u32) -> u8
+    ensures { result ≡ word % 256 }
 {
-    (words[k] % 256) as u8
+    (word % 256) as u8
 }
 
-pub fn half(words: &[u32], k: usize) -> u16
-    requires { k < length words.now }
-    ensures { result ≡ half_in words.now k }
+pub fn half(word: u32) -> u16
+    ensures { result ≡ word % 65536 }
 {
-    (words[k] % 65536) as u16
-}
-
-pub fn switch(words: &[u32], k: usize) -> bool
-    requires { k < length words.now }
-    ensures { result ≡ switch_in words.now k }
-{
-    words[k] == 1
+    (word % 65536) as u16
 }
 
 // The test of the words that are there, n of them. The loop asks for no bound: the compiler takes many words a step.
