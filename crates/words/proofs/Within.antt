@@ -42,15 +42,16 @@ within_at (m ∷ more) words k zero j is e h = rw (is, add-zero k) (leb-true (wo
 within_at (m ∷ more) words k (suc i) j is e h = within_at more words (k + 1) i j (omega arith) (both (leb (word_at words k) m) (within more words (k + 1)) e).1 (omega arith)
 
 -- so a byte's word, or one of 16 bits, is the field's value
-module _ (most words : List ℕ) (fits : within most words 0 ≡ true) (i : ℕ) (h : i < length most) where
-  most_at : word_at words i ≤ get_or most i 0
-  most_at = within_at most words 0 i i (omega arith) fits h
+module _ (most words : List ℕ) (fits : within most words 0 ≡ true) (i : ℕ) where
+  most_at : (m : ℕ) → 0 < m → get_or most i 0 ≡ m → word_at words i ≤ m
+  most_at m h e =
+      elim (cases_lt i (length most)) [ inl a ↦ rw e at (within_at most words 0 i i (omega arith) fits a) | inr b ↦ absurd (omega (arith, get_or_past most i 0 b)) ]
 
   pub byte_kept : get_or most i 0 ≡ a_byte → byte_in words i ≡ word_at words i
-  byte_kept e = mod-eq_of_lt (let s = most_at in omega arith)
+  byte_kept e = mod-eq_of_lt (let s = most_at a_byte (omega arith) e in omega arith)
 
   pub half_kept : get_or most i 0 ≡ a_half → half_in words i ≡ word_at words i
-  half_kept e = mod-eq_of_lt (let s = most_at in omega arith)
+  half_kept e = mod-eq_of_lt (let s = most_at a_half (omega arith) e in omega arith)
 
 -- a switch comes back
 pub switch_kept : (on : Bool) → eqb (switch_word on) 1 ≡ on
