@@ -19,6 +19,7 @@ pub fn half(word: u32) -> u16
 }
 
 // The test of the words that are there, n of them. The loop asks for no bound: the compiler takes many words a step.
+// By index, here and in `lay`: a slice's iterator hands out pointers, which the page in a browser does not allow for (docs/PROMISES.md).
 fn there_within(words: &[u32], most: &[u32], n: usize) -> bool
     requires { n ≡ min (length words.now) (length most.now) }
     ensures { result ≡ within most.now words.now 0 }
@@ -53,7 +54,7 @@ pub fn lay(words: &mut [u32], new: &[u32])
     }
 }
 
-// What is read of N words. Words that are missing are 0: they are filled up first, so that a word that is read needs no test (docs/SPEED.md).
+// What is read of N words. Those that are missing are 0: they are filled up first, so that a word that is read needs no test (docs/SPEED.md).
 pub fn read_whole<T, F: Fn(&[u32]) -> T, const N: usize>(words: &[u32], read: F) -> T
     requires size { N * 4 < 2 ^ 63 }
     requires reads { (whole : _) → N ≤ length whole.now → F.pre read whole }
