@@ -2,8 +2,7 @@
 use mathlib.Core.Path.{◌≡◌, refl}
 use mathlib.Core.Bool.{true}
 use mathlib.Core.List.{List, ◌++◌}
-use Prim.Native.Nat.{ℕ, ◌≤◌, ◌<◌}
-use lib.Dec.{lit<}
+use Prim.Native.Nat.{ℕ, ◌≤◌}
 use lib.ListN.{length, get_or, drop}
 use borrow.Author.Tests.{le-leb}
 use Rattle.board.specs.declared.Board.{Board}
@@ -17,56 +16,41 @@ module _ (b : Board) (rest : List ℕ) (fits : board_fits (board_words b ++ rest
   unfolding board_of ports_of side_of block_of blitter_of board_words board_most
   board_back =
       let words : List ℕ = board_words b ++ rest in
-      let byte : ((k : ℕ) → k < board_size → get_or board_most k 0 ≡ a_byte → byte_in words k ≡ word_at words k) = byte_kept board_most words fits in
-      let half : ((k : ℕ) → k < board_size → get_or board_most k 0 ≡ a_half → half_in words k ≡ word_at words k) = half_kept board_most words fits in
-      λ i.
-      record {
-        ports = record {
-          video = byte 0 (lit< tt) refl i;
-          xdladr = b.ports.xdladr;
-          bladr = b.ports.bladr;
-          p0 = byte 3 (lit< tt) refl i;
-          p1 = byte 4 (lit< tt) refl i;
-          p2 = byte 5 (lit< tt) refl i;
-          p3 = byte 6 (lit< tt) refl i;
-        };
-        blitter = record {
-          irqe = switch_kept b.blitter.irqe i;
-          irqf = switch_kept b.blitter.irqf i;
-          list = b.blitter.list;
-          flags = byte 10 (lit< tt) refl i;
-          note = record { code = byte 11 (lit< tt) refl i };
-          block = record {
-            source = record {
-              adr0 = byte 12 (lit< tt) refl i;
-              adr1 = byte 13 (lit< tt) refl i;
-              adr2 = byte 14 (lit< tt) refl i;
-              y0 = byte 15 (lit< tt) refl i;
-              y1 = byte 16 (lit< tt) refl i;
-              x = byte 17 (lit< tt) refl i;
-            };
-            dest = record {
-              adr0 = byte 18 (lit< tt) refl i;
-              adr1 = byte 19 (lit< tt) refl i;
-              adr2 = byte 20 (lit< tt) refl i;
-              y0 = byte 21 (lit< tt) refl i;
-              y1 = byte 22 (lit< tt) refl i;
-              x = byte 23 (lit< tt) refl i;
-            };
-            width0 = byte 24 (lit< tt) refl i;
-            width1 = byte 25 (lit< tt) refl i;
-            height = byte 26 (lit< tt) refl i;
-            andmask = byte 27 (lit< tt) refl i;
-            xormask = byte 28 (lit< tt) refl i;
-            hitmask = byte 29 (lit< tt) refl i;
-            zoom = byte 30 (lit< tt) refl i;
-            pattern = byte 31 (lit< tt) refl i;
-            control = byte 32 (lit< tt) refl i;
-          };
-          row = half 33 (lit< tt) refl i;
-          col = half 34 (lit< tt) refl i;
-        };
-      }
+      let byte : ((k : ℕ) → get_or board_most k 0 ≡ a_byte → byte_in words k ≡ word_at words k) = byte_kept board_most words fits in
+      let half : ((k : ℕ) → get_or board_most k 0 ≡ a_half → half_in words k ≡ word_at words k) = half_kept board_most words fits in
+      simp (
+        byte 0 refl,
+        byte 3 refl,
+        byte 4 refl,
+        byte 5 refl,
+        byte 6 refl,
+        byte 10 refl,
+        byte 11 refl,
+        byte 12 refl,
+        byte 13 refl,
+        byte 14 refl,
+        byte 15 refl,
+        byte 16 refl,
+        byte 17 refl,
+        byte 18 refl,
+        byte 19 refl,
+        byte 20 refl,
+        byte 21 refl,
+        byte 22 refl,
+        byte 23 refl,
+        byte 24 refl,
+        byte 25 refl,
+        byte 26 refl,
+        byte 27 refl,
+        byte 28 refl,
+        byte 29 refl,
+        byte 30 refl,
+        byte 31 refl,
+        byte 32 refl,
+        half 33 refl,
+        half 34 refl,
+        switch_kept,
+      )
 
 -- words behind a state's do not matter to whether it fits
 board_rest : (b : Board) (rest : List ℕ) → board_fits (board_words b) ≡ true → board_fits (board_words b ++ rest) ≡ true

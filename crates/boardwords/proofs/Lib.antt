@@ -1,4 +1,4 @@
 -- Laws of a board's words.
-mod Same
+pub mod Same
 pub mod Crossing
 mod Once

@@ -2,8 +2,7 @@
 use mathlib.Core.Path.{◌≡◌, refl}
 use mathlib.Core.Bool.{true}
 use mathlib.Core.List.{List, ◌++◌}
-use Prim.Native.Nat.{ℕ, ◌≤◌, ◌<◌}
-use lib.Dec.{lit<}
+use Prim.Native.Nat.{ℕ, ◌≤◌}
 use lib.ListN.{length, get_or, drop}
 use borrow.Author.Tests.{le-leb}
 use Rattle.settings.specs.declared.Settings.{Settings}
@@ -18,37 +17,27 @@ module _ (s : Settings) (rest : List ℕ) (fits : settings_fits (settings_words 
   unfolding settings_of overlay_of map_of look_of settings_words settings_most
   settings_back =
       let words : List ℕ = settings_words s ++ rest in
-      let byte : ((k : ℕ) → k < settings_size → get_or settings_most k 0 ≡ a_byte → byte_in words k ≡ word_at words k) = byte_kept settings_most words fits in
-      let half : ((k : ℕ) → k < settings_size → get_or settings_most k 0 ≡ a_half → half_in words k ≡ word_at words k) = half_kept settings_most words fits in
-      λ i.
-      record {
-        overlay = record {
-          mode = byte 0 (lit< tt) refl i;
-          address = s.overlay.address;
-          step = half 2 (lit< tt) refl i;
-          hscroll = byte 3 (lit< tt) refl i;
-          vscroll = byte 4 (lit< tt) refl i;
-          font = byte 5 (lit< tt) refl i;
-          counter = byte 6 (lit< tt) refl i;
-        };
-        map = record {
-          on = switch_kept s.map.on i;
-          address = s.map.address;
-          step = half 9 (lit< tt) refl i;
-          hscroll = byte 10 (lit< tt) refl i;
-          vscroll = byte 11 (lit< tt) refl i;
-          width = byte 12 (lit< tt) refl i;
-          height = byte 13 (lit< tt) refl i;
-          counter = byte 14 (lit< tt) refl i;
-        };
-        look = record {
-          width = byte 15 (lit< tt) refl i;
-          palette = byte 16 (lit< tt) refl i;
-          playfield = byte 17 (lit< tt) refl i;
-          priority = byte 18 (lit< tt) refl i;
-        };
-        origin = s.origin;
-      }
+      let byte : ((k : ℕ) → get_or settings_most k 0 ≡ a_byte → byte_in words k ≡ word_at words k) = byte_kept settings_most words fits in
+      let half : ((k : ℕ) → get_or settings_most k 0 ≡ a_half → half_in words k ≡ word_at words k) = half_kept settings_most words fits in
+      simp (
+        byte 0 refl,
+        half 2 refl,
+        byte 3 refl,
+        byte 4 refl,
+        byte 5 refl,
+        byte 6 refl,
+        half 9 refl,
+        byte 10 refl,
+        byte 11 refl,
+        byte 12 refl,
+        byte 13 refl,
+        byte 14 refl,
+        byte 15 refl,
+        byte 16 refl,
+        byte 17 refl,
+        byte 18 refl,
+        switch_kept,
+      )
 
 settings_rest : (s : Settings) (rest : List ℕ) → settings_fits (settings_words s) ≡ true → settings_fits (settings_words s ++ rest) ≡ true
 unfolding settings_words settings_most within
@@ -75,17 +64,7 @@ module _ (f : Frame) (rest : List ℕ) (fits : frame_fits (frame_words f ++ rest
   unfolding behind frame_of frame_words settings_words frame_most settings_most
   frame_back =
       let words : List ℕ = frame_words f ++ rest in
-      λ i.
-      record {
-        reader = record {
-          settings = settings_back f.reader.settings behind front_fits i;
-          position = f.reader.position;
-          repeat = byte_kept frame_most words fits 21 (lit< tt) refl i;
-          ended = switch_kept f.reader.ended i;
-        };
-        line = half_kept frame_most words fits 22 (lit< tt) refl i;
-        on = switch_kept f.on i;
-      }
+      simp (settings_back f.reader.settings behind front_fits, byte_kept frame_most words fits 21 refl, half_kept frame_most words fits 22 refl, switch_kept)
 
 frame_rest : (f : Frame) (rest : List ℕ) → frame_fits (frame_words f) ≡ true → frame_fits (frame_words f ++ rest) ≡ true
 unfolding frame_words settings_words frame_most settings_most within

@@ -2,10 +2,10 @@
 use mathlib.Core.Path.{◌≡◌}
 use mathlib.Core.List.{List}
 use Prim.Native.Nat.{ℕ}
-use Rattle.words.specs.Words.{word_at}
+use Rattle.words.specs.Words.{SameWords}
 use Rattle.framewords.specs.Frame.{overlay_of, map_of, look_of, settings_of, frame_of}
 
-module _ (a b : List ℕ) (e : (k : ℕ) → word_at a k ≡ word_at b k) where
+module _ (a b : List ℕ) (e : SameWords a b) where
   pub settings_same : settings_of a ≡ settings_of b
   unfolding settings_of overlay_of map_of look_of
   settings_same = simp e

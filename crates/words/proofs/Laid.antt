@@ -2,12 +2,10 @@
 use mathlib.Core.Path.{◌≡◌, sym, ap, ◌∙◌}
 use mathlib.Core.Bool.{Bool, cond}
 use mathlib.Core.List.{List, ◌++◌, append_assoc}
-use Prim.Native.Nat.{ℕ, ◌+◌, ◌-◌, ◌≤◌, ◌<◌}
-use native.Mathlib.Nat.{zero-add}
-use native.Mathlib.Numerals.{add-one}
+use Prim.Native.Nat.{ℕ, ◌+◌, ◌-◌, ◌≤◌}
 use native.Mathlib.Omega.{arith}
-use lib.ListN.{length, take, drop, set, get_or, length-append, length-drop}
-use lib.Seq.{paste, paste-suc, take-length, take-append_seam, drop-append_seam, drop-drop}
+use lib.ListN.{length, take, drop, length-append, length-drop}
+use lib.Seq.{take-append_seam, drop-append_seam, drop-drop}
 use borrow.Author.Tests.{le-leb}
 use borrow.Rule.Slice.PartMut.{put_mid}
 use Rattle.laws.proofs.Lent.{tail_lent, tail_back}
@@ -16,24 +14,6 @@ use Rattle.words.specs.Words.{laid}
 -- where there is room
 pub laid_room : (new old : List ℕ) → length new ≤ length old → laid new old ≡ new ++ drop (length new) old
 laid_room new old h = ap (λ (t : Bool). cond t (new ++ drop (length new) old) old) (le-leb (length new) (length old) h)
-
--- a loop has written i words
-module _ (words old new : List ℕ) (i : ℕ) (so_far : words ≡ paste old 0 new i) (room : length new ≤ length old) where
-  pub lay_next : i < length new → set words i (get_or new i 0) ≡ paste old 0 new (i + 1)
-  lay_next h =
-      ap (λ (j : ℕ). set words j (get_or new i 0)) (sym (zero-add i))
-      ∙ ap (λ (l : List ℕ). set l (0 + i) (get_or new i 0)) so_far
-      ∙ paste-suc old 0 new i 0 (omega arith) h
-      ∙ ap (paste old 0 new) (sym (add-one i))
-
-  pub lay_end : i ≤ length new → length new ≤ i → words ≡ laid new old
-  lay_end h k =
-      let all : i ≡ length new = omega arith in
-      so_far
-      ∙ ap (paste old 0 new) all
-      ∙ ap (λ (l : List ℕ). l ++ drop (0 + length new) old) (take-length new)
-      ∙ ap (λ (n : ℕ). new ++ drop n old) (zero-add (length new))
-      ∙ sym (laid_room new old room)
 
 -- words laid over what is lent from the end of others on are laid behind these
 pub laid_on :

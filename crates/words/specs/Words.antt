@@ -1,9 +1,13 @@
 -- include/deskboard.h: "States are lent as words, one 32-bit word a field".
-use Rattle.std.specs.Prelude.{Bool, true, cond, ◌&&◌, List, [], ◌∷◌, ◌++◌, ℕ, ◌+◌, ◌%◌, eqb, leb, length, drop, get_or}
+use Rattle.std.specs.Prelude.{◌≡◌, Bool, true, cond, ◌&&◌, List, [], ◌∷◌, ◌++◌, ℕ, ◌+◌, ◌%◌, eqb, leb, length, drop, get_or}
 
 -- the word at a place; past the end there is 0
 abbrev pub word_at : List ℕ → ℕ → ℕ
 word_at words k = get_or words k 0
+
+-- at each place they say the same
+abbrev pub SameWords : List ℕ → List ℕ → Type 0
+SameWords a b = (k : ℕ) → word_at a k ≡ word_at b k
 
 -- it as a byte, as 16 bits and as a switch: of a word within its field's type, the word itself
 abbrev pub byte_in : List ℕ → ℕ → ℕ

@@ -1,19 +1,32 @@
-// A lent buffer of words: whether the words fit, and words laid over it.
+// A lent buffer of words: a word as a field, whether the words fit, and words laid over it.
 #![tactic(auto)]
 
-ghost use Rattle.std.specs.Prelude.{◌≡◌, min, length};
-ghost use Rattle.words.specs.Words.{within, laid};
+ghost use Rattle.std.specs.Prelude.{◌≡◌, ◌<◌, ◌≤◌, ◌*◌, ◌%◌, ◌^◌, min, length};
+ghost use Rattle.std.specs.Fn.{FnReturnsAt};
+ghost use Rattle.words.specs.Words.{SameWords, within, laid};
+
+// A word as a byte, and as 16 bits.
+pub fn byte(word: u32) -> u8
+    ensures { result ≡ word % 256 }
+{
+    (word % 256) as u8
+}
+
+pub fn half(word: u32) -> u16
+    ensures { result ≡ word % 65536 }
+{
+    (word % 65536) as u16
+}
 
 // The test of the words that are there, n of them. The loop asks for no bound: the compiler takes many words a step.
+// By index, here and in `lay`: a slice's iterator hands out pointers, which the page in a browser does not allow for (docs/PROMISES.md).
 fn there_within(words: &[u32], most: &[u32], n: usize) -> bool
     requires { n ≡ min (length words.now) (length most.now) }
     ensures { result ≡ within most.now words.now 0 }
 {
     let mut all = true;
-    let mut i = 0;
-    while i < n {
+    for i in 0..n {
         all = all & (words[i] <= most[i]);
-        i += 1;
     }
     all
 }
@@ -36,9 +49,21 @@ pub fn lay(words: &mut [u32], new: &[u32])
     if words.len() < new.len() {
         return;
     }
-    let mut i = 0;
-    while i < new.len() {
+    for i in 0..new.len() {
         words[i] = new[i];
-        i += 1;
     }
+}
+
+// What is read of N words. Those that are missing are 0: they are filled up first, so that a word that is read needs no test (docs/SPEED.md).
+pub fn read_whole<T, F: Fn(&[u32]) -> T, const N: usize>(words: &[u32], read: F) -> T
+    requires size { N * 4 < 2 ^ 63 }
+    requires reads { (whole : _) → N ≤ length whole.now → F.pre read whole }
+    ensures { (whole : _) × (N ≤ length whole) × SameWords whole words.now × FnReturnsAt F.Fn read whole result }
+{
+    if words.len() < N {
+        let mut whole = [0; N];
+        lay(&mut whole, words);
+        return read(&whole);
+    }
+    read(words)
 }
