@@ -12,8 +12,7 @@ use Rattle.pixels.specs.Fills.{byte_pixel, nibble_colour, nibble_pixel, ink_of, 
 use Rattle.pixels.specs.declared.fills.Dot.{Dot}
 use Rattle.pixels.specs.declared.text.Glyph.{Glyph}
 use Rattle.pixels.specs.declared.text.Inks.{Inks}
-use Rattle.pixels.proofs.Each.{each_at}
-use Rattle.pixels.proofs.Filling.{filled_same}
+use Rattle.pixels.proofs.Each.{each_same, each_get}
 
 -- an address that is reduced is the same place
 pub byte_reduced : (mem : List ℕ) (address offset at : ℕ) → at ≡ (address + offset) % 524288 → byte_at mem at 0 ≡ byte_at mem address offset
@@ -40,14 +39,13 @@ module _ (piece : List ℕ) (k : ℕ) where
 
 -- colours drawn as bytes are the nibbles' pixels
 pub nibbles_drawn :
-    (piece colours line : List ℕ) (video palette n : ℕ) → colours ≡ each (nibble_colour piece) 0 n → n ≡ length colours
-    → filled (byte_pixel colours video palette) (length colours) line ≡ filled (nibble_pixel piece video palette) n line
-nibbles_drawn piece colours line video palette n is long =
-    ap (λ (k : ℕ). filled (byte_pixel colours video palette) k line) (sym long)
-    ∙ filled_same (byte_pixel colours video palette) (nibble_pixel piece video palette) n line
+    (piece colours : List ℕ) (video palette n m : ℕ) → m ≡ n → colours ≡ each (nibble_colour piece) 0 m
+    → each (byte_pixel colours video palette) 0 n ≡ each (nibble_pixel piece video palette) 0 n
+nibbles_drawn piece colours video palette n m size is =
+    each_same (byte_pixel colours video palette) (nibble_pixel piece video palette) 0 0 n
     (λ j q.
     ap (λ (v : ℕ). shade_of video palette (plain v))
-    (ap (λ (l : List ℕ). get_or l j 0) is ∙ (each_at (nibble_colour piece) 0 n j q ∙ ap (nibble_colour piece) (zero-add j))))
+    (ap (λ (l : List ℕ). get_or l (0 + j) 0) is ∙ each_get (nibble_colour piece) m (0 + j) (omega arith)))
 
 module _ (piece mem : List ℕ) (font : ℕ) (inks : Inks) where
   pub glyph_made :
@@ -69,11 +67,11 @@ module _ (piece mem : List ℕ) (font : ℕ) (inks : Inks) where
   -- all eight of the c-th behind character `from`
   pub column_whole :
       (from c : ℕ) (g : Glyph) → g ≡ glyph_of piece mem font inks (from + c)
-      → (j : ℕ) → j < 8 → column_pixel piece mem font inks (from * 8) (c * 8 + j) ≡ glyph_pixel g (0 + j)
+      → (j : ℕ) → j < 8 → column_pixel piece mem font inks (from * 8) (c * 8 + j) ≡ glyph_pixel g j
   column_whole from c g is j h =
       let char : (from * 8 + (c * 8 + j)) / 8 ≡ from + c = omega arith in
-      let part : (from * 8 + (c * 8 + j)) % 8 ≡ 0 + j = omega arith in
-      ap₂ (λ (x k : ℕ). glyph_pixel (glyph_of piece mem font inks x) k) char part ∙ sym (ap (λ (x : Glyph). glyph_pixel x (0 + j)) is)
+      let part : (from * 8 + (c * 8 + j)) % 8 ≡ j = omega arith in
+      ap₂ (λ (x k : ℕ). glyph_pixel (glyph_of piece mem font inks x) k) char part ∙ sym (ap (λ (x : Glyph). glyph_pixel x j) is)
 
   -- columns from one on are those from an earlier one, further on
   pub column_behind : (a b i j : ℕ) → a + i ≡ b + j → column_pixel piece mem font inks a i ≡ column_pixel piece mem font inks b j

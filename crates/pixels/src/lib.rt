@@ -4,17 +4,19 @@
 mod fills;
 mod text;
 
-ghost use Rattle.std.specs.Prelude.{◌≡◌, true, [], ◌∷◌, ◌≤◌, length, get_or};
+ghost use Rattle.std.specs.Prelude.{◌≡◌, true, [], ◌≤◌, length, get_or};
 ghost use Rattle.settings.specs.Settings.{sound_settings};
 ghost use Rattle.vram.specs.Memory.{good_length};
-ghost use Rattle.pixels.specs.Pixels.{line_count, pixel_count, pixel_at};
-ghost use Rattle.pixels.specs.Reads.{data_bytes, read_bytes};
+ghost use Rattle.pixels.specs.Pixels.{line_count, pixel_count, pixel_at, each};
+ghost use Rattle.pixels.specs.Reads.{read_bytes};
 ghost use Rattle.pixels.specs.Fills.{piece_of};
 ghost use Rattle.pixels.specs.Draw.{filled, draw_told, draw_answer, draw_output};
 
 use board::Board;
+use fills::Shades;
 use refusal::Refusal;
 use settings::Settings;
+use text::{Inks, Text};
 use vram::good_length;
 
 // What drawing tells: the number of pixels, or why it is refused.
@@ -24,100 +26,100 @@ pub enum Drawn {
     Refused(Refusal),
 }
 
-// One of three by the width.
-fn by_width(width: u8, narrow: u16, normal: u16, wide: u16) -> u16
-    ensures { result ≡ get_or (narrow ∷ normal ∷ wide ∷ []) width 0 }
+// The pixels of a line, by mode and width: off has none.
+static PIXELS: [[u16; 3]; 5] = [
+    [0, 0, 0],
+    [512, 640, 672],
+    [256, 320, 336],
+    [512, 640, 672],
+    [128, 160, 168],
+];
+
+// The bytes of a line's data.
+static BYTES: [[u16; 3]; 5] = [
+    [0, 0, 0],
+    [128, 160, 168],
+    [256, 320, 336],
+    [256, 320, 336],
+    [128, 160, 168],
+];
+
+// What a table has at a mode and a width; 0 past its ends.
+fn entry(table: &[[u16; 3]; 5], mode: u8, width: u8) -> u16
+    ensures { result ≡ get_or (get_or table.now mode []) width 0 }
 {
-    match width {
-        0 => narrow,
-        1 => normal,
-        2 => wide,
-        _ => 0,
+    match table.get(mode as usize) {
+        Some(row) => row.get(width as usize).copied().unwrap_or(0),
+        None => 0,
     }
 }
 
 // The pixels of a line. None where the overlay is off.
+#[tactic(auto, unfolding(crate::specs::Pixels::pixel_count))]
 fn count_of(mode: u8, width: u8) -> u16
     ensures { result ≡ pixel_count mode width }
 {
-    match mode {
-        1 => by_width(width, 512, 640, 672),
-        2 => by_width(width, 256, 320, 336),
-        3 => by_width(width, 512, 640, 672),
-        4 => by_width(width, 128, 160, 168),
-        _ => 0,
-    }
-}
-
-// The bytes of a line's data.
-fn data_bytes(mode: u8, width: u8) -> u16
-    ensures { result ≡ data_bytes mode width }
-{
-    match mode {
-        1 => by_width(width, 128, 160, 168),
-        2 => by_width(width, 256, 320, 336),
-        3 => by_width(width, 256, 320, 336),
-        4 => by_width(width, 128, 160, 168),
-        _ => 0,
-    }
+    entry(&PIXELS, mode, width)
 }
 
 // The bytes that a line is drawn from: scrolled text has one character more.
+#[tactic(auto, unfolding(crate::specs::Reads::data_bytes))]
 fn read_bytes(settings: Settings) -> u16
     ensures { result ≡ read_bytes settings }
 {
     let overlay = settings.overlay;
-    let look = settings.look;
-    let bytes = data_bytes(overlay.mode, look.width);
+    let bytes = entry(&BYTES, overlay.mode, settings.look.width);
     if (overlay.mode == 1) & (0 < overlay.hscroll) {
         return bytes + 2;
     }
     bytes
 }
 
-// The pixels of sound settings, from data in one piece, in a line that has room for them.
-fn paint(piece: &[u8], mem: &[u8], video: u8, settings: Settings, line: &mut [u16], count: usize)
-    requires { (sound_settings settings ≡ true) × (count ≡ line_count settings) × (count ≤ length line.old) × (piece.now ≡ piece_of mem.now settings) × (good_length (length mem.now) ≡ true) }
-    ensures { line.new ≡ filled (pixel_at mem.now video settings) count line.old }
+// The pixels of sound settings, from data in one piece.
+fn paint(piece: &[u8], mem: &[u8], video: u8, settings: Settings, line: &mut [u16])
+    requires sound { sound_settings settings ≡ true }
+    requires count { length line.old ≡ line_count settings }
+    requires piece { piece.now ≡ piece_of mem.now settings }
+    requires good { good_length (length mem.now) ≡ true }
+    ensures { line.new ≡ each (pixel_at mem.now video settings) 0 (length line.old) }
 {
     let overlay = settings.overlay;
-    let look = settings.look;
-    let mode = overlay.mode;
-    match mode {
+    let shades = Shades {
+        video,
+        palette: settings.look.palette,
+    };
+    match overlay.mode {
         1 => {
-            let font = overlay.font as u32 * 2048 + overlay.counter as u32;
-            let inks = text::inks_of(video, look.palette);
-            text::fill(
+            let text = Text {
                 piece,
                 mem,
-                font,
-                inks,
-                overlay.hscroll as usize,
-                line,
-                count,
-            );
+                font: overlay.font as u32 * 2048 + overlay.counter as u32,
+                inks: Inks::new(shades),
+            };
+            text.fill(overlay.hscroll as usize, line);
         }
-        3 => fills::nibbles(piece, video, look.palette, line),
-        _ => fills::bytes(piece, video, look.palette, line),
+        3 => shades.nibbles(piece, line),
+        _ => shades.bytes(piece, line),
     }
 }
 
-// The same from memory: its own bytes where the data ends inside it.
+// The same from memory, in a line that has room: its own bytes where the data ends inside it.
 fn fill(mem: &[u8], video: u8, settings: Settings, line: &mut [u16], count: usize)
     requires { (sound_settings settings ≡ true) × (count ≡ line_count settings) × (count ≤ length line.old) × (good_length (length mem.now) ≡ true) }
     ensures { line.new ≡ filled (pixel_at mem.now video settings) count line.old }
 {
-    let overlay = settings.overlay;
+    let line = &mut line[..count];
     let n = read_bytes(settings) as usize;
-    let from = overlay.address as usize;
+    let from = settings.overlay.address as usize;
     let to = from + n;
     if to <= mem.len() {
-        paint(&mem[from..to], mem, video, settings, line, count);
+        paint(&mem[from..to], mem, video, settings, line);
         return;
     }
-    let mut piece = [0u8; 336];
-    fills::gather(mem, overlay.address, &mut piece, n);
-    paint(&piece[..n], mem, video, settings, line, count);
+    let mut room = [0u8; 336];
+    let piece = &mut room[..n];
+    fills::gather(mem, settings.overlay.address, piece);
+    paint(piece, mem, video, settings, line);
 }
 
 // Draws one line: fills the entries of a lent line from its first on, and tells how many. Those past them stay.
