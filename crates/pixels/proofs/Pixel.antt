@@ -14,29 +14,6 @@ use Rattle.pixels.specs.declared.text.Glyph.{Glyph}
 use Rattle.pixels.specs.declared.text.Inks.{Inks}
 use Rattle.pixels.proofs.Each.{each_same, each_get}
 
--- an address that is reduced is the same place
-pub byte_reduced : (mem : List ℕ) (address offset at : ℕ) → at ≡ (address + offset) % 524288 → byte_at mem at 0 ≡ byte_at mem address offset
-byte_reduced mem address offset at e =
-    ap (λ (p : ℕ). get_or mem (p % length mem) 0)
-    (ap (λ (x : ℕ). (x + 0) % 524288) e
-    ∙ (mod-add-mod (address + offset) 524288 0 ∙ ap (λ (x : ℕ). x % 524288) (add-zero (address + offset))))
-
-pub byte_drawn :
-    (piece : List ℕ) (video palette k : ℕ) (d : Dot) (p : ℕ) → p ≡ shade_of video palette d → d ≡ plain (get_or piece k 0)
-    → p ≡ byte_pixel piece video palette k
-byte_drawn piece video palette k d p shaded e = shaded ∙ ap (shade_of video palette) e
-
--- the left colour of byte k, and the right one
-module _ (piece : List ℕ) (k : ℕ) where
-  nibble_at : (i part : ℕ) → i / 2 ≡ k → i % 2 ≡ part → nibble_of (get_or piece k 0) part ≡ nibble_colour piece i
-  nibble_at i part half rest = ap₂ (λ (j q : ℕ). nibble_of (get_or piece j 0) q) (sym half) (sym rest)
-
-  pub left_colour : get_or piece k 0 / 16 ≡ nibble_colour piece (k * 2)
-  left_colour = nibble_at (k * 2) 0 (omega arith) (omega arith)
-
-  pub right_colour : get_or piece k 0 % 16 ≡ nibble_colour piece (k * 2 + 1)
-  right_colour = nibble_at (k * 2 + 1) 1 (omega arith) (omega arith)
-
 -- colours drawn as bytes are the nibbles' pixels
 pub nibbles_drawn :
     (piece colours : List ℕ) (video palette n m : ℕ) → m ≡ n → colours ≡ each (nibble_colour piece) 0 m
@@ -48,12 +25,6 @@ nibbles_drawn piece colours video palette n m size is =
     (ap (λ (l : List ℕ). get_or l (0 + j) 0) is ∙ each_get (nibble_colour piece) m (0 + j) (omega arith)))
 
 module _ (piece mem : List ℕ) (font : ℕ) (inks : Inks) where
-  pub glyph_made :
-      (c bits set unset : ℕ) → bits ≡ byte_at mem font (get_or piece (c * 2) 0 * 8) → set ≡ ink_of inks (get_or piece (c * 2 + 1) 0 % 128)
-      → unset ≡ background_of inks (get_or piece (c * 2 + 1) 0)
-      → record { bits = bits; set = set; unset = unset } ≡ glyph_of piece mem font inks c
-  glyph_made c bits set unset e one other = λ k. record { bits = e k; set = one k; unset = other k }
-
   -- its pixels from a part on
   pub column_part :
       (c part : ℕ) (g : Glyph) → g ≡ glyph_of piece mem font inks c → (i : ℕ) → part + i < 8
