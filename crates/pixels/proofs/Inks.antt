@@ -1,15 +1,14 @@
 -- The colours of text, worked out once a line; and the parts of a font line, by nibbles. Assumes nothing.
 use mathlib.Core.Path.{◌≡◌, refl, ap, ap₂, ◌∙◌}
 use mathlib.Core.Bool.{Bool, true, false, cond, not, ◌&&◌, ◌||◌}
-use mathlib.Core.List.{List}
 use Prim.Native.Nat.{ℕ, zero, suc, ◌+◌, ◌-◌, ◌*◌, ◌/◌, ◌%◌, ◌≤◌, ◌<◌}
 use native.Mathlib.Omega.{arith}
 use lib.Dec.{eqb, ltb}
-use lib.ListN.{length, get_or}
+use lib.ListN.{get_or}
 use Rattle.laws.specs.Bit.{bit}
 use Rattle.pixels.specs.Pixels.{inked, shade_of}
 use Rattle.pixels.specs.Fills.{inks_of, ink_of, background_of, lit_of, lit_table}
-use Rattle.pixels.proofs.Each.{each_length, each_at}
+use Rattle.pixels.proofs.Each.{each_at}
 
 -- a colour that is not clear goes by trans15 alone
 ink_shade : (video palette colour : ℕ) → ink_of (inks_of video palette) colour ≡ shade_of video palette (record { colour = colour; clear = false })

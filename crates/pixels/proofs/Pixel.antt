@@ -2,14 +2,10 @@
 use mathlib.Core.Path.{◌≡◌, sym, ap, ap₂, ◌∙◌}
 use mathlib.Core.List.{List}
 use Prim.Native.Nat.{ℕ, ◌+◌, ◌*◌, ◌/◌, ◌%◌, ◌<◌}
-use native.Mathlib.Nat.{mod-add-mod, add-zero, zero-add}
 use native.Mathlib.Omega.{arith}
-use lib.ListN.{length, get_or}
-use Rattle.vram.specs.Memory.{byte_at}
-use Rattle.pixels.specs.Pixels.{plain, nibble_of, shade_of, each}
-use Rattle.pixels.specs.Draw.{filled}
-use Rattle.pixels.specs.Fills.{byte_pixel, nibble_colour, nibble_pixel, ink_of, background_of, glyph_of, glyph_pixel, column_pixel}
-use Rattle.pixels.specs.declared.fills.Dot.{Dot}
+use lib.ListN.{get_or}
+use Rattle.pixels.specs.Pixels.{plain, shade_of, each}
+use Rattle.pixels.specs.Fills.{byte_pixel, nibble_colour, nibble_pixel, glyph_of, glyph_pixel, column_pixel}
 use Rattle.pixels.specs.declared.text.Glyph.{Glyph}
 use Rattle.pixels.specs.declared.text.Inks.{Inks}
 use Rattle.pixels.proofs.Each.{each_same, each_get}

@@ -1,6 +1,6 @@
 -- `pixels::text::Text::characters` meets its contract, eight pixels a character. Assumes nothing.
-use mathlib.Core.Path.{◌≡◌, sym}
-use Prim.Native.Nat.{ℕ, ◌+◌, ◌*◌, ◌<◌}
+use mathlib.Core.Path.{sym}
+use Prim.Native.Nat.{◌*◌}
 use native.Mathlib.Omega.{arith}
 use Rattle.pixels.proofs.Each.{each_all, each_more}
 use Rattle.pixels.proofs.Pixel.{column_whole}
