@@ -4,11 +4,11 @@
 mod fills;
 mod text;
 
-ghost use Rattle.std.specs.Prelude.{◌≡◌, true, [], ◌≤◌, length, get_or};
+ghost use Rattle.std.specs.Prelude.{◌≡◌, true, [], ◌∷◌, ◌≤◌, length, get_or};
 ghost use Rattle.settings.specs.Settings.{sound_settings};
 ghost use Rattle.vram.specs.Memory.{good_length};
 ghost use Rattle.pixels.specs.Pixels.{line_count, pixel_count, pixel_at, each};
-ghost use Rattle.pixels.specs.Reads.{read_bytes};
+ghost use Rattle.pixels.specs.Reads.{data_bytes, read_bytes};
 ghost use Rattle.pixels.specs.Fills.{piece_of};
 ghost use Rattle.pixels.specs.Draw.{filled, draw_told, draw_answer, draw_output};
 
@@ -26,49 +26,50 @@ pub enum Drawn {
     Refused(Refusal),
 }
 
-// The pixels of a line, by mode and width: off has none.
-static PIXELS: [[u16; 3]; 5] = [
-    [0, 0, 0],
-    [512, 640, 672],
-    [256, 320, 336],
-    [512, 640, 672],
-    [128, 160, 168],
-];
-
-// The bytes of a line's data.
-static BYTES: [[u16; 3]; 5] = [
-    [0, 0, 0],
-    [128, 160, 168],
-    [256, 320, 336],
-    [256, 320, 336],
-    [128, 160, 168],
-];
-
-// What a table has at a mode and a width; 0 past its ends.
-fn entry(table: &[[u16; 3]; 5], mode: u8, width: u8) -> u16
-    ensures { result ≡ get_or (get_or table.now mode []) width 0 }
+// One of three by the width.
+fn by_width(width: u8, narrow: u16, normal: u16, wide: u16) -> u16
+    ensures { result ≡ get_or (narrow ∷ normal ∷ wide ∷ []) width 0 }
 {
-    match table.get(mode as usize) {
-        Some(row) => row.get(width as usize).copied().unwrap_or(0),
-        None => 0,
+    match width {
+        0 => narrow,
+        1 => normal,
+        2 => wide,
+        _ => 0,
     }
 }
 
-// The pixels of a line. None where the overlay is off.
-#[tactic(auto, unfolding(crate::specs::Pixels::pixel_count))]
+// The pixels of a line. None where the overlay is off. No table: the page in a browser has no room for a constant's bytes (docs/PROMISES.md).
+#[tactic(auto, using(crate::proofs::Counts::count_else), unfolding(crate::specs::Pixels::pixel_count))]
 fn count_of(mode: u8, width: u8) -> u16
     ensures { result ≡ pixel_count mode width }
 {
-    entry(&PIXELS, mode, width)
+    match mode {
+        1 | 3 => by_width(width, 512, 640, 672),
+        2 => by_width(width, 256, 320, 336),
+        4 => by_width(width, 128, 160, 168),
+        _ => 0,
+    }
+}
+
+// The bytes of a line's data.
+#[tactic(auto, using(crate::proofs::Counts::bytes_else), unfolding(crate::specs::Reads::data_bytes))]
+fn data_bytes(mode: u8, width: u8) -> u16
+    ensures { result ≡ data_bytes mode width }
+{
+    match mode {
+        1 | 4 => by_width(width, 128, 160, 168),
+        2 | 3 => by_width(width, 256, 320, 336),
+        _ => 0,
+    }
 }
 
 // The bytes that a line is drawn from: scrolled text has one character more.
-#[tactic(auto, unfolding(crate::specs::Reads::data_bytes))]
+#[tactic(auto, using(crate::proofs::Counts::bytes_most))]
 fn read_bytes(settings: Settings) -> u16
     ensures { result ≡ read_bytes settings }
 {
     let overlay = settings.overlay;
-    let bytes = entry(&BYTES, overlay.mode, settings.look.width);
+    let bytes = data_bytes(overlay.mode, settings.look.width);
     if (overlay.mode == 1) & (0 < overlay.hscroll) {
         return bytes + 2;
     }

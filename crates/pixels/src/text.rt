@@ -2,7 +2,7 @@
 ghost use Rattle.std.specs.Prelude.{◌≡◌, true, cond, ◌+◌, ◌*◌, ◌/◌, ◌%◌, ◌≤◌, ◌<◌, eqb, length};
 ghost use Rattle.vram.specs.Memory.{good_length, byte_at};
 ghost use Rattle.pixels.specs.Pixels.{each};
-ghost use Rattle.pixels.specs.Fills.{inks_of, ink_of, background_of, lit_of, glyph_of, glyph_pixel, column_pixel};
+ghost use Rattle.pixels.specs.Fills.{inks_of, ink_of, background_of, lit_table, lit_of, glyph_of, glyph_pixel, column_pixel};
 
 use super::fills::{Dot, Shades, TRANSPARENT};
 
@@ -64,14 +64,15 @@ const LITS: [u16; 64] = [
 ];
 
 // Whether a part of a font line is set, as a number.
-fn lit(bits: u8, part: usize) -> u16
-    requires { part < 8 }
+fn lit(lits: &[u16; 64], bits: u8, part: usize) -> u16
+    requires table { lits.now ≡ lit_table }
+    requires part { part < 8 }
     ensures { result ≡ lit_of bits part }
 {
     if part < 4 {
-        return LITS[bits as usize / 16 * 4 + part];
+        return lits[bits as usize / 16 * 4 + part];
     }
-    LITS[bits as usize % 16 * 4 + (part - 4)]
+    lits[bits as usize % 16 * 4 + (part - 4)]
 }
 
 // One of two entries, by a number that is 1 or 0.
@@ -97,12 +98,13 @@ impl Glyph {
 
     // All eight. By a table and a sum, where nothing is asked, the compiler draws them at once (docs/SPEED.md).
     #[tactic(auto, using(crate::proofs::Each::each_all))]
-    fn put(self, line: &mut [u16])
-        requires { length line.old ≡ 8 }
+    fn put(self, lits: &[u16; 64], line: &mut [u16])
+        requires table { lits.now ≡ lit_table }
+        requires eight { length line.old ≡ 8 }
         ensures { line.new ≡ each (glyph_pixel self) 0 8 }
     {
         for part in 0..8 {
-            line[part] = chosen(lit(self.bits, part), self.set, self.unset);
+            line[part] = chosen(lit(lits, self.bits, part), self.set, self.unset);
         }
     }
 }
@@ -159,9 +161,10 @@ impl Text<'_> {
         requires within { (from + length line.old / 8) * 2 ≤ length self.piece.now }
         ensures { line.new ≡ each (column_pixel self.entry.piece.now self.entry.mem.now self.entry.font self.entry.inks (from * 8)) 0 (length line.old) }
     {
+        let lits = LITS;
         for c in 0..line.len() / 8 {
             let at = c * 8;
-            self.glyph_at(from + c).put(&mut line[at..at + 8]);
+            self.glyph_at(from + c).put(&lits, &mut line[at..at + 8]);
         }
     }
 

@@ -1,10 +1,15 @@
 -- `pixels::text::Text::characters` meets its contract, eight pixels a character. Assumes nothing.
-use mathlib.Core.Path.{sym}
+use mathlib.Core.Path.{refl, sym}
 use Prim.Native.Nat.{◌*◌}
 use native.Mathlib.Omega.{arith}
+use Rattle.pixels.specs.Pixels.{each}
 use Rattle.pixels.proofs.Each.{each_all, each_more}
 use Rattle.pixels.proofs.Pixel.{column_whole}
 use Rattle.pixels.proofs.text.Text.characters.Goals as goal
+
+pub put-requires-clause-table : goal.put-requires-clause-table
+unfolding each
+put-requires-clause-table c = refl
 
 pub loop-c-preserved : goal.loop-c-preserved
 loop-c-preserved c =
