@@ -27,7 +27,6 @@ shade_ink video palette attribute true = refl
 shade_ink video palette attribute false = refl
 
 pub record TextBounds (bytes count hscroll : ℕ) : Type 0 where
-  pub most : count ≤ 672
   pub cells : count % 8 ≡ 0
   pub some : 8 ≤ count
   pub scroll : hscroll < 8
@@ -144,7 +143,6 @@ module _ (mem : List ℕ) (video : ℕ) (s : Settings) where
         let long : length piece ≡ data_bytes 1 w + cond (ltb 0 s.overlay.hscroll) 2 0 = piece_long ∙ sym (read_text e) in
         let enough = text_enough (pixel_count 1 w) (data_bytes 1 w) s.overlay.hscroll cells (pixels_per_byte 1 w) fit.overlay.hscroll in
         record {
-          most = omega (arith, count, count_most 1 w);
           cells = omega (arith, count, cells);
           some = omega (arith, count, cells, some);
           scroll = fit.overlay.hscroll;

@@ -26,7 +26,7 @@ pub enum Drawn {
     Refused(Refusal),
 }
 
-// One of three by the width.
+// One of three by the width. The two tables are matches: a lent constant would be a global, and the browser's module has none (docs/PROMISES.md).
 fn by_width(width: u8, narrow: u16, normal: u16, wide: u16) -> u16
     ensures { result ≡ get_or (narrow ∷ normal ∷ wide ∷ []) width 0 }
 {
@@ -38,7 +38,7 @@ fn by_width(width: u8, narrow: u16, normal: u16, wide: u16) -> u16
     }
 }
 
-// The pixels of a line. None where the overlay is off. No table: the page in a browser has no room for a constant's bytes (docs/PROMISES.md).
+// The pixels of a line. None where the overlay is off.
 #[tactic(auto, using(crate::proofs::Counts::count_else), unfolding(crate::specs::Pixels::pixel_count))]
 fn count_of(mode: u8, width: u8) -> u16
     ensures { result ≡ pixel_count mode width }

@@ -57,7 +57,7 @@ impl Inks {
     }
 }
 
-// For each nibble whether its bits are set, the highest first.
+// For each nibble whether its bits are set, the highest first. It is copied before it is lent: the browser's module has no global (docs/PROMISES.md).
 const LITS: [u16; 64] = [
     0, 0, 0, 0, 0, 0, 0, 1, 0, 0, 1, 0, 0, 0, 1, 1, 0, 1, 0, 0, 0, 1, 0, 1, 0, 1, 1, 0, 0, 1, 1, 1,
     1, 0, 0, 0, 1, 0, 0, 1, 1, 0, 1, 0, 1, 0, 1, 1, 1, 1, 0, 0, 1, 1, 0, 1, 1, 1, 1, 0, 1, 1, 1, 1,
@@ -129,8 +129,7 @@ impl Text<'_> {
 
     // Character c of the line on its font line. A set pixel has the attribute's low seven bits.
     fn glyph_at(self, c: usize) -> Glyph
-        requires within { c * 2 + 1 < length self.piece.now }
-        requires most { c ≤ 100 }
+        requires { c * 2 + 1 < length self.piece.now }
         ensures { result ≡ glyph_of self.entry.piece.now self.entry.mem.now self.entry.font self.entry.inks c }
     {
         let attribute = self.piece[c * 2 + 1];
@@ -144,7 +143,6 @@ impl Text<'_> {
     // Pixels of character c, from a part on: of one that is cut.
     fn cut(self, c: usize, part: usize, line: &mut [u16])
         requires within { c * 2 + 1 < length self.piece.now }
-        requires most { c ≤ 100 }
         requires parts { part + length line.old ≤ 8 }
         ensures { line.new ≡ each (column_pixel self.entry.piece.now self.entry.mem.now self.entry.font self.entry.inks (c * 8 + part)) 0 (length line.old) }
     {
@@ -157,7 +155,6 @@ impl Text<'_> {
     // Whole characters, from one on.
     fn characters(self, from: usize, line: &mut [u16])
         requires whole { length line.old % 8 ≡ 0 }
-        requires most { from + length line.old / 8 ≤ 85 }
         requires within { (from + length line.old / 8) * 2 ≤ length self.piece.now }
         ensures { line.new ≡ each (column_pixel self.entry.piece.now self.entry.mem.now self.entry.font self.entry.inks (from * 8)) 0 (length line.old) }
     {
@@ -170,7 +167,6 @@ impl Text<'_> {
 
     // The whole line. With hscroll the first character is cut on the left, and the one more on the right.
     pub fn fill(self, hscroll: usize, line: &mut [u16])
-        requires most { length line.old ≤ 672 }
         requires cells { length line.old % 8 ≡ 0 }
         requires some { 8 ≤ length line.old }
         requires scroll { hscroll < 8 }

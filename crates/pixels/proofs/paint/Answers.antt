@@ -12,7 +12,7 @@ fill-requires c =
     let a = c.args in
     let p = c.requires in
     let k = text_bounds a.mem.now a.video a.settings a.piece.now (length a.line.now) p.piece p.count p.sound c.in-1.is in
-    record { most = k.most; cells = k.cells; some = k.some; scroll = k.scroll; even = k.even; room = k.room }
+    record { cells = k.cells; some = k.some; scroll = k.scroll; even = k.even; room = k.room }
 
 pub nibbles-requires : goal.nibbles-requires
 nibbles-requires c =
