@@ -11,7 +11,7 @@ use refusal::{After, Refusal, ask};
 use vram::Vram;
 
 // The registers that are only written to: VIDEO_CONTROL, XDL_ADR, BL_ADR, P0 to P3.
-#[derive(Clone, Copy, Default)]
+#[derive(Clone, Copy, PartialEq, Eq, Default)]
 pub struct Ports {
     pub video: u8,
     pub xdladr: u32,
@@ -23,7 +23,7 @@ pub struct Ports {
 }
 
 // The desk board. Video memory is lent to each call that needs it.
-#[derive(Clone, Copy)]
+#[derive(Clone, Copy, PartialEq, Eq)]
 pub struct Board {
     pub ports: Ports,
     pub blitter: Blitter,

@@ -60,19 +60,19 @@ count_most =
 -- what the last arm of a match on the modes 1 to 4 knows: there is nothing in a table whose row of off is empty
 else_none :
     (f : ℕ → ℕ → ℕ) → ((w : ℕ) → f 0 w ≡ 0) → ((m w : ℕ) → 5 ≤ m → f m w ≡ 0) → (mode width : ℕ)
-    → (((Unit {0} × (mode ≡ 1 → ⊥)) × (mode ≡ 2 → ⊥)) × (mode ≡ 3 → ⊥)) × (mode ≡ 4 → ⊥)
+    → (mode ≡ 1 → ⊥) → (mode ≡ 2 → ⊥) → (mode ≡ 3 → ⊥) → (mode ≡ 4 → ⊥)
     → 0 ≡ f mode width
-else_none f off past zero w r = sym (off w)
-else_none f off past (suc zero) w r = absurd (r.0.0.0.1 refl)
-else_none f off past (suc (suc zero)) w r = absurd (r.0.0.1 refl)
-else_none f off past (suc (suc (suc zero))) w r = absurd (r.0.1 refl)
-else_none f off past (suc (suc (suc (suc zero)))) w r = absurd (r.1 refl)
-else_none f off past (suc (suc (suc (suc (suc m))))) w r = sym (past (suc (suc (suc (suc (suc m))))) w (omega arith))
+else_none f off past zero w one two three four = sym (off w)
+else_none f off past (suc zero) w one two three four = absurd (one refl)
+else_none f off past (suc (suc zero)) w one two three four = absurd (two refl)
+else_none f off past (suc (suc (suc zero))) w one two three four = absurd (three refl)
+else_none f off past (suc (suc (suc (suc zero)))) w one two three four = absurd (four refl)
+else_none f off past (suc (suc (suc (suc (suc m))))) w one two three four = sym (past (suc (suc (suc (suc (suc m))))) w (omega arith))
 
-pub count_else : (mode width : ℕ) → (((Unit {0} × (mode ≡ 1 → ⊥)) × (mode ≡ 2 → ⊥)) × (mode ≡ 3 → ⊥)) × (mode ≡ 4 → ⊥) → 0 ≡ pixel_count mode width
+pub count_else : (mode width : ℕ) → (mode ≡ 1 → ⊥) → (mode ≡ 2 → ⊥) → (mode ≡ 3 → ⊥) → (mode ≡ 4 → ⊥) → 0 ≡ pixel_count mode width
 count_else = else_none pixel_count off_none mode_none
 
-pub bytes_else : (mode width : ℕ) → (((Unit {0} × (mode ≡ 1 → ⊥)) × (mode ≡ 2 → ⊥)) × (mode ≡ 3 → ⊥)) × (mode ≡ 4 → ⊥) → 0 ≡ data_bytes mode width
+pub bytes_else : (mode width : ℕ) → (mode ≡ 1 → ⊥) → (mode ≡ 2 → ⊥) → (mode ≡ 3 → ⊥) → (mode ≡ 4 → ⊥) → 0 ≡ data_bytes mode width
 bytes_else = else_none data_bytes off_no_byte mode_no_byte
 
 -- a line is whole cells: twos in HR, eights in text

@@ -1,15 +1,14 @@
 -- The colours of text, worked out once a line; and the parts of a font line, by nibbles. Assumes nothing.
 use mathlib.Core.Path.{◌≡◌, refl, ap, ap₂, ◌∙◌}
 use mathlib.Core.Bool.{Bool, true, false, cond, not, ◌&&◌, ◌||◌}
-use mathlib.Core.List.{List}
 use Prim.Native.Nat.{ℕ, zero, suc, ◌+◌, ◌-◌, ◌*◌, ◌/◌, ◌%◌, ◌≤◌, ◌<◌}
 use native.Mathlib.Omega.{arith}
 use lib.Dec.{eqb, ltb}
-use lib.ListN.{length, get_or}
+use lib.ListN.{get_or}
 use Rattle.laws.specs.Bit.{bit}
 use Rattle.pixels.specs.Pixels.{inked, shade_of}
 use Rattle.pixels.specs.Fills.{inks_of, ink_of, background_of, lit_of, lit_table}
-use Rattle.pixels.proofs.Each.{each_length, each_at}
+use Rattle.pixels.proofs.Each.{each_at}
 
 -- a colour that is not clear goes by trans15 alone
 ink_shade : (video palette colour : ℕ) → ink_of (inks_of video palette) colour ≡ shade_of video palette (record { colour = colour; clear = false })
@@ -34,9 +33,6 @@ background_shade video palette attribute = go (ltb attribute 128)
         ≡ shade_of video palette (cond low (record { colour = 128; clear = true }) (record { colour = attribute; clear = false }))
     go true = refl
     go false = ink_shade video palette attribute
-
-pub table_long : {lits : List ℕ} → lits ≡ lit_table → length lits ≡ 64
-table_long e = ap length e ∙ each_length (λ j. cond (bit (j / 4) (3 - j % 4)) 1 0) 0 64
 
 -- a number of the table is a bit of its nibble
 lit_nibble : (n part : ℕ) → n < 16 → part < 4 → get_or lit_table (n * 4 + part) 0 ≡ cond (bit n (3 - part)) 1 0
@@ -72,34 +68,3 @@ lit_right bits part h k =
     let back : 4 + (part - 4) ≡ part = omega arith in
     lit_nibble (bits % 16) (part - 4) (omega arith) (omega arith)
     ∙ (ap (λ (b : Bool). cond b 1 0) (low_bit bits (part - 4) (omega arith)) ∙ ap (lit_of bits) back)
-
--- a part's number is 1 or 0, and chooses its entry
-pub lit_most : (bits part : ℕ) → lit_of bits part ≤ 1
-lit_most bits part = go (bit bits (7 - part))
-  where
-    go : (b : Bool) → cond b 1 0 ≤ 1
-    go true = omega arith
-    go false = omega arith
-
-pub lit_chooses : (bits part set unset : ℕ) → cond (eqb (lit_of bits part) 1) set unset ≡ cond (bit bits (7 - part)) set unset
-lit_chooses bits part set unset = go (bit bits (7 - part))
-  where
-    go : (b : Bool) → cond (eqb (cond b 1 0) 1) set unset ≡ cond b set unset
-    go true = refl
-    go false = refl
-
--- a sum of two, of which one is taken no time
-pub once_most : (n m : ℕ) → n ≤ 1 → n * m ≤ m
-once_most zero m h = omega arith
-once_most (suc zero) m h = omega arith
-once_most (suc (suc n)) m h = absurd (omega arith)
-
-pub sum_most : (lit set unset most : ℕ) → lit ≤ 1 → set ≤ most → unset ≤ most → lit * set + (1 - lit) * unset ≤ most
-sum_most zero set unset most h p q = omega arith
-sum_most (suc zero) set unset most h p q = omega arith
-sum_most (suc (suc lit)) set unset most h p q = absurd (omega arith)
-
-pub chosen_is : (lit set unset : ℕ) → lit ≤ 1 → lit * set + (1 - lit) * unset ≡ cond (eqb lit 1) set unset
-chosen_is zero set unset h = omega arith
-chosen_is (suc zero) set unset h = omega arith
-chosen_is (suc (suc lit)) set unset h = absurd (omega arith)

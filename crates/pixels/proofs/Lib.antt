@@ -2,7 +2,6 @@
 pub mod Table
 pub mod Counts
 pub mod Each
-pub mod Filling
 pub mod Pixel
 pub mod Inks
 pub mod Scrolled

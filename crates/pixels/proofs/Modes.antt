@@ -3,7 +3,7 @@ use mathlib.Core.Path.{◌≡◌, refl, sym, ap, ap₂, ◌∙◌, subst}
 use mathlib.Core.Bool.{Bool, true, false, cond}
 use mathlib.Core.List.{List}
 use Prim.Native.Nat.{ℕ, zero, suc, ◌+◌, ◌-◌, ◌*◌, ◌/◌, ◌%◌, ◌≤◌, ◌<◌}
-use native.Mathlib.Nat.{add-zero, add_comm, zero-add}
+use native.Mathlib.Nat.{add-zero, add_comm}
 use native.Mathlib.Omega.{arith}
 use lib.Dec.{ltb}
 use lib.ListN.{length, get_or}
@@ -12,14 +12,12 @@ use Rattle.settings.specs.declared.Settings.{Settings}
 use Rattle.settings.specs.Settings.{sound_settings}
 use Rattle.settings.proofs.Sound.{settings_fit}
 use Rattle.vram.specs.Memory.{cell_at, byte_at}
-use Rattle.pixels.specs.Pixels.{pixel_count, line_count, font_address, plain, nibble_of, inked, shade_of, dot_at, pixel_at}
-use Rattle.pixels.specs.Draw.{filled}
+use Rattle.pixels.specs.Pixels.{pixel_count, line_count, font_address, plain, nibble_of, inked, shade_of, dot_at, pixel_at, each}
 use Rattle.pixels.specs.Reads.{data_bytes, read_bytes}
 use Rattle.pixels.specs.Fills.{piece_of, byte_pixel, nibble_pixel, inks_of, ink_of, background_of, column_pixel}
 use Rattle.pixels.specs.declared.text.Inks.{Inks}
 use Rattle.pixels.proofs.Counts.{off_none, off_no_byte, count_most, count_cells, text_some, pixels_per_byte}
-use Rattle.pixels.proofs.Each.{each_length, each_at}
-use Rattle.pixels.proofs.Filling.{filled_same}
+use Rattle.pixels.proofs.Each.{each_length, each_same, each_get}
 use Rattle.pixels.proofs.Inks.{set_shade, background_shade}
 use Rattle.pixels.proofs.Bytes.{text_within, text_enough}
 
@@ -29,7 +27,6 @@ shade_ink video palette attribute true = refl
 shade_ink video palette attribute false = refl
 
 pub record TextBounds (bytes count hscroll : ℕ) : Type 0 where
-  pub most : count ≤ 672
   pub cells : count % 8 ≡ 0
   pub some : 8 ≤ count
   pub scroll : hscroll < 8
@@ -39,7 +36,7 @@ pub record TextBounds (bytes count hscroll : ℕ) : Type 0 where
 module _ (mem : List ℕ) (video : ℕ) (s : Settings) where
   -- a byte of the piece
   piece_at : (k : ℕ) → k < read_bytes s → get_or (piece_of mem s) k 0 ≡ byte_at mem s.overlay.address k
-  piece_at k h = each_at (byte_at mem s.overlay.address) 0 (read_bytes s) k h ∙ ap (byte_at mem s.overlay.address) (zero-add k)
+  piece_at k h = each_get (byte_at mem s.overlay.address) (read_bytes s) k h
 
   at_offset :
       (i k : ℕ) → i ≡ k
@@ -125,9 +122,9 @@ module _ (mem : List ℕ) (video : ℕ) (s : Settings) where
   byte_mode (suc (suc (suc (suc (suc m))))) e known one three = absurd (omega arith)
 
   -- the whole line, from the piece
-  module _ (piece line : List ℕ) (n : ℕ) (is : piece ≡ piece_of mem s) (all : n ≡ line_count s) where
-    same_filled : (g : ℕ → ℕ) → ((i : ℕ) → i < n → g i ≡ pixel_at mem video s i) → filled g n line ≡ filled (pixel_at mem video s) n line
-    same_filled g h = filled_same g (pixel_at mem video s) n line h
+  module _ (piece : List ℕ) (n : ℕ) (is : piece ≡ piece_of mem s) (all : n ≡ line_count s) where
+    same_line : (g : ℕ → ℕ) → ((i : ℕ) → i < n → g i ≡ pixel_at mem video s i) → each g 0 n ≡ each (pixel_at mem video s) 0 n
+    same_line g h = each_same g (pixel_at mem video s) 0 0 n (λ j q. h (0 + j) (omega arith))
 
     piece_long : length piece ≡ read_bytes s
     piece_long = ap length is ∙ each_length (byte_at mem s.overlay.address) 0 (read_bytes s)
@@ -146,7 +143,6 @@ module _ (mem : List ℕ) (video : ℕ) (s : Settings) where
         let long : length piece ≡ data_bytes 1 w + cond (ltb 0 s.overlay.hscroll) 2 0 = piece_long ∙ sym (read_text e) in
         let enough = text_enough (pixel_count 1 w) (data_bytes 1 w) s.overlay.hscroll cells (pixels_per_byte 1 w) fit.overlay.hscroll in
         record {
-          most = omega (arith, count, count_most 1 w);
           cells = omega (arith, count, cells);
           some = omega (arith, count, cells, some);
           scroll = fit.overlay.hscroll;
@@ -154,29 +150,30 @@ module _ (mem : List ℕ) (video : ℕ) (s : Settings) where
           room = omega (arith, count, long, enough.1);
         }
 
-    pub text_filled :
+    pub text_line :
         s.overlay.mode ≡ 1 → s.overlay.hscroll < 8
         → (font : ℕ) (inks : Inks) → font ≡ font_address s.overlay 0 → inks ≡ inks_of video s.look.palette
-        → filled (column_pixel piece mem font inks s.overlay.hscroll) n line ≡ filled (pixel_at mem video s) n line
-    text_filled e small font inks at by =
-        (λ k. filled (column_pixel (is k) mem (at k) (by k) s.overlay.hscroll) n line)
-        ∙ same_filled _ (λ i q. text_pixel e small i (below 1 i e q))
+        → each (column_pixel piece mem font inks s.overlay.hscroll) 0 n ≡ each (pixel_at mem video s) 0 n
+    text_line e small font inks at by =
+        (λ k. each (column_pixel (is k) mem (at k) (by k) s.overlay.hscroll) 0 n)
+        ∙ same_line _ (λ i q. text_pixel e small i (below 1 i e q))
 
-    pub hr_bytes : s.overlay.mode ≡ 3 → length piece * 2 ≡ n
-    hr_bytes e = ap (λ (k : ℕ). k * 2) piece_long ∙ (hr_count e ∙ sym all)
+    pub hr_bytes : s.overlay.mode ≡ 3 → n ≡ length piece * 2
+    hr_bytes e = all ∙ (sym (hr_count e) ∙ sym (ap (λ (k : ℕ). k * 2) piece_long))
 
-    pub nibbles_filled :
-        s.overlay.mode ≡ 3
-        → filled (nibble_pixel piece video s.look.palette) (length piece * 2) line ≡ filled (pixel_at mem video s) n line
-    nibbles_filled e =
-        ap₂ (λ (p : List ℕ) (k : ℕ). filled (nibble_pixel p video s.look.palette) k line) is (hr_bytes e)
-        ∙ same_filled _ (λ i q. nibble_pixel_lem e i (below 3 i e q))
+    pub hr_most : n ≤ 672
+    hr_most = omega (arith, all, count_most s.overlay.mode s.look.width)
+
+    pub nibbles_line : s.overlay.mode ≡ 3 → each (nibble_pixel piece video s.look.palette) 0 n ≡ each (pixel_at mem video s) 0 n
+    nibbles_line e =
+        ap (λ (p : List ℕ). each (nibble_pixel p video s.look.palette) 0 n) is
+        ∙ same_line _ (λ i q. nibble_pixel_lem e i (below 3 i e q))
 
     module _ (known : s.overlay.mode < 5) (one : s.overlay.mode ≡ 1 → ⊥) (three : s.overlay.mode ≡ 3 → ⊥) where
-      pub sr_bytes : length piece ≡ n
-      sr_bytes = piece_long ∙ ((byte_mode s.overlay.mode refl known one three).0 ∙ sym all)
+      pub sr_bytes : n ≡ length piece
+      sr_bytes = all ∙ (sym (byte_mode s.overlay.mode refl known one three).0 ∙ sym piece_long)
 
-      pub bytes_filled : filled (byte_pixel piece video s.look.palette) (length piece) line ≡ filled (pixel_at mem video s) n line
-      bytes_filled =
-          ap₂ (λ (p : List ℕ) (k : ℕ). filled (byte_pixel p video s.look.palette) k line) is sr_bytes
-          ∙ same_filled _ (λ i q. ap (λ (v : ℕ). shade_of video s.look.palette (plain v)) (piece_at i (omega (arith, piece_long, sr_bytes, q))) ∙ (byte_mode s.overlay.mode refl known one three).1 i (omega (arith, all, q)))
+      pub bytes_line : each (byte_pixel piece video s.look.palette) 0 n ≡ each (pixel_at mem video s) 0 n
+      bytes_line =
+          ap (λ (p : List ℕ). each (byte_pixel p video s.look.palette) 0 n) is
+          ∙ same_line _ (λ i q. ap (λ (v : ℕ). shade_of video s.look.palette (plain v)) (piece_at i (omega (arith, piece_long, sr_bytes, q))) ∙ (byte_mode s.overlay.mode refl known one three).1 i (omega (arith, all, q)))

@@ -1,13 +1,12 @@
 -- A line's data in one piece: as it stands in memory, and gathered. Assumes nothing.
-use mathlib.Core.Path.{◌≡◌, refl, sym, ap, ◌∙◌, subst}
+use mathlib.Core.Path.{◌≡◌, refl, sym, ap, ◌∙◌}
 use mathlib.Core.Bool.{Bool, true, false, cond}
 use mathlib.Core.List.{List}
 use Prim.Native.Nat.{ℕ, ◌+◌, ◌-◌, ◌≤◌, ◌<◌}
-use native.Mathlib.Nat.{zero-add}
 use native.Mathlib.Omega.{arith}
 use lib.Dec.{eqb, ltb}
 use lib.ListN.{length, take, drop, get_or, length-drop}
-use lib.Seq.{ext_get_or, get_or-take, get_or-drop, length-take-le}
+use lib.Seq.{get_or-take, get_or-drop, length-take-le}
 use borrow.Author.Tests.{eqb-true}
 use Rattle.settings.specs.Settings.{sound_settings}
 use Rattle.settings.specs.declared.Settings.{Settings}
@@ -15,12 +14,10 @@ use Rattle.settings.proofs.Sound.{settings_fit}
 use Rattle.vram.specs.Memory.{byte_at}
 use Rattle.vram.proofs.Length.{own_place}
 use Rattle.pixels.specs.Pixels.{each}
-use Rattle.pixels.specs.Draw.{filled}
 use Rattle.pixels.specs.Reads.{read_bytes}
 use Rattle.pixels.specs.Fills.{piece_of}
 use Rattle.pixels.proofs.Counts.{bytes_most, text_most}
-use Rattle.pixels.proofs.Each.{each_length, each_at}
-use Rattle.pixels.proofs.Filling.{front_is}
+use Rattle.pixels.proofs.Each.{each_all}
 
 -- it fits into 336 bytes
 more_most : (b : Bool) → cond b 2 0 ≤ 2
@@ -42,14 +39,8 @@ byte_inside mem a k h m = ap (λ (p : ℕ). get_or mem p 0) (own_place (length m
 
 slice_each : (mem : List ℕ) (a n : ℕ) → a + n ≤ length mem → length mem ≤ 524288 → take n (drop a mem) ≡ each (byte_at mem a) 0 n
 slice_each mem a n h m =
-    let long : length (take n (drop a mem)) ≡ n = length-take-le n (drop a mem) (simp length-drop (omega arith)) in
-    ext_get_or 0 (take n (drop a mem)) (each (byte_at mem a) 0 n) (long ∙ sym (each_length (byte_at mem a) 0 n))
-    (λ i q.
-    let small : i < n = subst (λ (x : ℕ). i < x) long q in
-    get_or-take n (drop a mem) i 0 small
-    ∙ (get_or-drop a mem i 0
-    ∙ (sym (byte_inside mem a i (omega arith) m)
-    ∙ sym (each_at (byte_at mem a) 0 n i small ∙ ap (byte_at mem a) (zero-add i)))))
+    each_all (byte_at mem a) (take n (drop a mem)) n (length-take-le n (drop a mem) (simp length-drop (omega arith)))
+    (λ i q. get_or-take n (drop a mem) i 0 q ∙ (get_or-drop a mem i 0 ∙ sym (byte_inside mem a i (omega arith) m)))
 
 module _ (mem : List ℕ) (s : Settings) (n : ℕ) (is : n ≡ read_bytes s) where
   pub inside :
@@ -60,8 +51,3 @@ module _ (mem : List ℕ) (s : Settings) (n : ℕ) (is : n ≡ read_bytes s) whe
       let size : a + n - a ≡ n = omega arith in
       ap (λ (k : ℕ). take k (drop a mem)) size
       ∙ (slice_each mem a n h m ∙ ap (each (byte_at mem a) 0) is)
-
-  pub gathered : (first got : List ℕ) → got ≡ filled (byte_at mem s.overlay.address) n first → take n got ≡ piece_of mem s
-  gathered first got e =
-      let f = byte_at mem s.overlay.address in
-      front_is f n first got e ∙ ap (each f 0) is

@@ -2,60 +2,25 @@
 use mathlib.Core.Path.{◌≡◌, sym, ap, ap₂, ◌∙◌}
 use mathlib.Core.List.{List}
 use Prim.Native.Nat.{ℕ, ◌+◌, ◌*◌, ◌/◌, ◌%◌, ◌<◌}
-use native.Mathlib.Nat.{mod-add-mod, add-zero, zero-add}
 use native.Mathlib.Omega.{arith}
-use lib.ListN.{length, get_or}
-use Rattle.vram.specs.Memory.{byte_at}
-use Rattle.pixels.specs.Pixels.{plain, nibble_of, shade_of, each}
-use Rattle.pixels.specs.Draw.{filled}
-use Rattle.pixels.specs.Fills.{byte_pixel, nibble_colour, nibble_pixel, ink_of, background_of, glyph_of, glyph_pixel, column_pixel}
-use Rattle.pixels.specs.declared.fills.Dot.{Dot}
+use lib.ListN.{get_or}
+use Rattle.pixels.specs.Pixels.{plain, shade_of, each}
+use Rattle.pixels.specs.Fills.{byte_pixel, nibble_colour, nibble_pixel, glyph_of, glyph_pixel, column_pixel}
 use Rattle.pixels.specs.declared.text.Glyph.{Glyph}
 use Rattle.pixels.specs.declared.text.Inks.{Inks}
-use Rattle.pixels.proofs.Each.{each_at}
-use Rattle.pixels.proofs.Filling.{filled_same}
-
--- an address that is reduced is the same place
-pub byte_reduced : (mem : List ℕ) (address offset at : ℕ) → at ≡ (address + offset) % 524288 → byte_at mem at 0 ≡ byte_at mem address offset
-byte_reduced mem address offset at e =
-    ap (λ (p : ℕ). get_or mem (p % length mem) 0)
-    (ap (λ (x : ℕ). (x + 0) % 524288) e
-    ∙ (mod-add-mod (address + offset) 524288 0 ∙ ap (λ (x : ℕ). x % 524288) (add-zero (address + offset))))
-
-pub byte_drawn :
-    (piece : List ℕ) (video palette k : ℕ) (d : Dot) (p : ℕ) → p ≡ shade_of video palette d → d ≡ plain (get_or piece k 0)
-    → p ≡ byte_pixel piece video palette k
-byte_drawn piece video palette k d p shaded e = shaded ∙ ap (shade_of video palette) e
-
--- the left colour of byte k, and the right one
-module _ (piece : List ℕ) (k : ℕ) where
-  nibble_at : (i part : ℕ) → i / 2 ≡ k → i % 2 ≡ part → nibble_of (get_or piece k 0) part ≡ nibble_colour piece i
-  nibble_at i part half rest = ap₂ (λ (j q : ℕ). nibble_of (get_or piece j 0) q) (sym half) (sym rest)
-
-  pub left_colour : get_or piece k 0 / 16 ≡ nibble_colour piece (k * 2)
-  left_colour = nibble_at (k * 2) 0 (omega arith) (omega arith)
-
-  pub right_colour : get_or piece k 0 % 16 ≡ nibble_colour piece (k * 2 + 1)
-  right_colour = nibble_at (k * 2 + 1) 1 (omega arith) (omega arith)
+use Rattle.pixels.proofs.Each.{each_same, each_get}
 
 -- colours drawn as bytes are the nibbles' pixels
 pub nibbles_drawn :
-    (piece colours line : List ℕ) (video palette n : ℕ) → colours ≡ each (nibble_colour piece) 0 n → n ≡ length colours
-    → filled (byte_pixel colours video palette) (length colours) line ≡ filled (nibble_pixel piece video palette) n line
-nibbles_drawn piece colours line video palette n is long =
-    ap (λ (k : ℕ). filled (byte_pixel colours video palette) k line) (sym long)
-    ∙ filled_same (byte_pixel colours video palette) (nibble_pixel piece video palette) n line
+    (piece colours : List ℕ) (video palette n m : ℕ) → m ≡ n → colours ≡ each (nibble_colour piece) 0 m
+    → each (byte_pixel colours video palette) 0 n ≡ each (nibble_pixel piece video palette) 0 n
+nibbles_drawn piece colours video palette n m size is =
+    each_same (byte_pixel colours video palette) (nibble_pixel piece video palette) 0 0 n
     (λ j q.
     ap (λ (v : ℕ). shade_of video palette (plain v))
-    (ap (λ (l : List ℕ). get_or l j 0) is ∙ (each_at (nibble_colour piece) 0 n j q ∙ ap (nibble_colour piece) (zero-add j))))
+    (ap (λ (l : List ℕ). get_or l (0 + j) 0) is ∙ each_get (nibble_colour piece) m (0 + j) (omega arith)))
 
 module _ (piece mem : List ℕ) (font : ℕ) (inks : Inks) where
-  pub glyph_made :
-      (c bits set unset : ℕ) → bits ≡ byte_at mem font (get_or piece (c * 2) 0 * 8) → set ≡ ink_of inks (get_or piece (c * 2 + 1) 0 % 128)
-      → unset ≡ background_of inks (get_or piece (c * 2 + 1) 0)
-      → record { bits = bits; set = set; unset = unset } ≡ glyph_of piece mem font inks c
-  glyph_made c bits set unset e one other = λ k. record { bits = e k; set = one k; unset = other k }
-
   -- its pixels from a part on
   pub column_part :
       (c part : ℕ) (g : Glyph) → g ≡ glyph_of piece mem font inks c → (i : ℕ) → part + i < 8
@@ -69,11 +34,11 @@ module _ (piece mem : List ℕ) (font : ℕ) (inks : Inks) where
   -- all eight of the c-th behind character `from`
   pub column_whole :
       (from c : ℕ) (g : Glyph) → g ≡ glyph_of piece mem font inks (from + c)
-      → (j : ℕ) → j < 8 → column_pixel piece mem font inks (from * 8) (c * 8 + j) ≡ glyph_pixel g (0 + j)
+      → (j : ℕ) → j < 8 → column_pixel piece mem font inks (from * 8) (c * 8 + j) ≡ glyph_pixel g j
   column_whole from c g is j h =
       let char : (from * 8 + (c * 8 + j)) / 8 ≡ from + c = omega arith in
-      let part : (from * 8 + (c * 8 + j)) % 8 ≡ 0 + j = omega arith in
-      ap₂ (λ (x k : ℕ). glyph_pixel (glyph_of piece mem font inks x) k) char part ∙ sym (ap (λ (x : Glyph). glyph_pixel x (0 + j)) is)
+      let part : (from * 8 + (c * 8 + j)) % 8 ≡ j = omega arith in
+      ap₂ (λ (x k : ℕ). glyph_pixel (glyph_of piece mem font inks x) k) char part ∙ sym (ap (λ (x : Glyph). glyph_pixel x j) is)
 
   -- columns from one on are those from an earlier one, further on
   pub column_behind : (a b i j : ℕ) → a + i ≡ b + j → column_pixel piece mem font inks a i ≡ column_pixel piece mem font inks b j

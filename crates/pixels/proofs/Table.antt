@@ -1,28 +1,21 @@
 -- What a test that is computed over the tables says of every mode and width, and that past the tables there is nothing. Assumes nothing.
-use mathlib.Core.Path.{◌≡◌, refl, ap, subst}
+use mathlib.Core.Path.{◌≡◌, refl, ap}
 use mathlib.Core.Bool.{Bool, true, ◌&&◌}
 use mathlib.Core.List.{List, [], ◌∷◌}
 use Prim.Native.Nat.{ℕ, zero, suc, ◌≤◌, ◌<◌}
-use native.Mathlib.Nat.{not-suc-le-zero}
-use native.Mathlib.Decide.{dec_lt}
 use native.Mathlib.Omega.{arith}
 use lib.Dec.{leb}
 use lib.ListN.{length, get_or, get_or-eq_default}
 use borrow.Author.Tests.{leb-true}
+use Rattle.std.proofs.lemmas.Bool.{agree_below, agree_below_at}
 use Rattle.laws.proofs.Choice.{both}
 
 -- every number below n passes
 abbrev pub all_below : ℕ → (ℕ → Bool) → Bool
-all_below zero t = true
-all_below (suc n) t = t n && all_below n t
+all_below n t = agree_below t (λ k. true) n
 
 pub below : (n : ℕ) (t : ℕ → Bool) → all_below n t ≡ true → (k : ℕ) → k < n → t k ≡ true
-below zero t e k h = absurd (not-suc-le-zero h)
-below (suc n) t e k h = go (dec_lt k n) (λ lt. below n t (both (t n) (all_below n t) e).1 k lt)
-  where
-    go : Dec (k < n) → (k < n → t k ≡ true) → t k ≡ true
-    go (yes lt) before = before lt
-    go (no nlt) before = let last : n ≡ k = omega arith in subst (λ (j : ℕ). t j ≡ true) last (both (t n) (all_below n t) e).0
+below n t e k h = agree_below_at t (λ k. true) n k e h
 
 -- a test of all five modes and three widths
 abbrev pub Tested : (ℕ → ℕ → Bool) → Type 0

@@ -2,8 +2,7 @@
 ghost use Rattle.std.specs.Prelude.{◌≡◌, ◌*◌, ◌≤◌, length};
 ghost use Rattle.laws.specs.Bit.{bit};
 ghost use Rattle.vram.specs.Memory.{byte_at};
-ghost use Rattle.pixels.specs.Pixels.{plain, shade_of};
-ghost use Rattle.pixels.specs.Draw.{filled};
+ghost use Rattle.pixels.specs.Pixels.{plain, shade_of, each};
 ghost use Rattle.pixels.specs.Fills.{byte_pixel, nibble_colour, nibble_pixel};
 
 use settings::further;
@@ -14,6 +13,18 @@ use vram::byte_at;
 pub struct Dot {
     pub colour: u8,
     pub clear: bool,
+}
+
+impl Dot {
+    // SR, LR and HR: colour 0 is clear.
+    fn plain(colour: u8) -> Dot
+        ensures { result ≡ plain colour }
+    {
+        Dot {
+            colour,
+            clear: colour == 0,
+        }
+    }
 }
 
 // The entry of a transparent pixel.
@@ -27,94 +38,88 @@ fn data_byte(mem: &[u8], address: u32, offset: usize) -> u8
     byte_at(mem, further(address, offset as u16), 0)
 }
 
-// SR, LR and HR: colour 0 is clear.
-fn plain_dot(colour: u8) -> Dot
-    ensures { result ≡ plain colour }
-{
-    Dot {
-        colour,
-        clear: colour == 0,
-    }
-}
-
-// Two bits of VIDEO_CONTROL.
-pub fn no_trans(video: u8) -> bool
-    ensures { result ≡ bit video 2 }
-{
-    video / 4 % 2 == 1
-}
-
-pub fn trans15(video: u8) -> bool
-    ensures { result ≡ bit video 3 }
-{
-    video / 8 % 2 == 1
-}
-
-// Transparent or not, by the manual's paragraphs. With the flags asked one after the other the compiler makes a loop for each (docs/SPEED.md).
-pub fn shade(video: u8, palette: u8, dot: Dot) -> u16
-    ensures { result ≡ shade_of video palette dot }
-{
-    let shown = palette as u16 * 256 + dot.colour as u16;
-    if no_trans(video) {
-        return shown;
-    }
-    if dot.clear {
-        return TRANSPARENT;
-    }
-    if trans15(video) {
-        if dot.colour % 16 == 15 {
-            return TRANSPARENT;
-        }
-        return shown;
-    }
-    shown
-}
-
 // A line's data in one piece, byte by byte: where it does not end inside memory.
-pub fn gather(mem: &[u8], address: u32, piece: &mut [u8], count: usize)
-    requires { (count ≤ length piece.old) × (count ≤ 1000) }
-    ensures { piece.new ≡ filled (byte_at mem.now address) count piece.old }
+#[tactic(auto, using(crate::proofs::Each::each_all))]
+pub fn gather(mem: &[u8], address: u32, piece: &mut [u8])
+    requires { length piece.old ≤ 1000 }
+    ensures { piece.new ≡ each (byte_at mem.now address) 0 (length piece.old) }
 {
-    let mut k = 0;
-    while k < count {
-        piece[k] = data_byte(mem, address, k);
-        k += 1;
-    }
-}
-
-// A pixel a byte: SR and LR, and the colours of HR.
-pub fn bytes(piece: &[u8], video: u8, palette: u8, line: &mut [u16])
-    requires { length piece.now ≤ length line.old }
-    ensures { line.new ≡ filled (byte_pixel piece.now video palette) (length piece.now) line.old }
-{
-    let mut k = 0;
-    while k < piece.len() {
-        line[k] = shade(video, palette, plain_dot(piece[k]));
-        k += 1;
+    for (k, byte) in piece.iter_mut().enumerate() {
+        *byte = data_byte(mem, address, k);
     }
 }
 
 // HR: the colours of its bytes. The left one is the high nibble.
+#[tactic(auto, using(crate::proofs::Each::each_all))]
 fn split(piece: &[u8], colours: &mut [u8])
-    requires { length piece.now * 2 ≤ length colours.old }
-    ensures { colours.new ≡ filled (nibble_colour piece.now) (length piece.now * 2) colours.old }
+    requires { length colours.old ≡ length piece.now * 2 }
+    ensures { colours.new ≡ each (nibble_colour piece.now) 0 (length colours.old) }
 {
-    let mut k = 0;
-    while k < piece.len() {
+    for k in 0..piece.len() {
         let v = piece[k];
         colours[k * 2] = v / 16;
         colours[k * 2 + 1] = v % 16;
-        k += 1;
     }
 }
 
-// HR: its colours, drawn as those of SR. In one loop the compiler draws fewer at once (docs/SPEED.md).
-pub fn nibbles(piece: &[u8], video: u8, palette: u8, line: &mut [u16])
-    requires { (length piece.now * 2 ≤ length line.old) × (length piece.now ≤ 336) }
-    ensures { line.new ≡ filled (nibble_pixel piece.now video palette) (length piece.now * 2) line.old }
-{
-    let mut colours = [0u8; 672];
-    split(piece, &mut colours);
-    let n = piece.len() * 2;
-    bytes(&colours[..n], video, palette, line);
+// What decides on a dot's entry: VIDEO_CONTROL and the line's palette.
+#[derive(Clone, Copy)]
+pub struct Shades {
+    pub video: u8,
+    pub palette: u8,
+}
+
+impl Shades {
+    // Two bits of VIDEO_CONTROL.
+    pub fn no_trans(self) -> bool
+        ensures { result ≡ bit self.video 2 }
+    {
+        self.video / 4 % 2 == 1
+    }
+
+    pub fn trans15(self) -> bool
+        ensures { result ≡ bit self.video 3 }
+    {
+        self.video / 8 % 2 == 1
+    }
+
+    // Transparent or not, by the manual's paragraphs. With the flags asked one after the other the compiler makes a loop for each (docs/SPEED.md).
+    pub fn shade(self, dot: Dot) -> u16
+        ensures { result ≡ shade_of self.video self.palette dot }
+    {
+        let shown = self.palette as u16 * 256 + dot.colour as u16;
+        if self.no_trans() {
+            return shown;
+        }
+        if dot.clear {
+            return TRANSPARENT;
+        }
+        if self.trans15() && dot.colour % 16 == 15 {
+            return TRANSPARENT;
+        }
+        shown
+    }
+
+    // A pixel a byte: SR and LR, and the colours of HR.
+    #[tactic(auto, using(crate::proofs::Each::each_all))]
+    pub fn bytes(self, piece: &[u8], line: &mut [u16])
+        requires { length line.old ≡ length piece.now }
+        ensures { line.new ≡ each (byte_pixel piece.now self.video self.palette) 0 (length line.old) }
+    {
+        for k in 0..piece.len() {
+            line[k] = self.shade(Dot::plain(piece[k]));
+        }
+    }
+
+    // HR: its colours, drawn as those of SR. In one loop the compiler draws fewer at once (docs/SPEED.md).
+    pub fn nibbles(self, piece: &[u8], line: &mut [u16])
+        requires two { length line.old ≡ length piece.now * 2 }
+        requires most { length line.old ≤ 672 }
+        ensures { line.new ≡ each (nibble_pixel piece.now self.video self.palette) 0 (length line.old) }
+    {
+        let mut room = [0u8; 672];
+        let colours = &mut room[..line.len()];
+        split(piece, colours);
+        self.bytes(colours, line);
+    }
 }

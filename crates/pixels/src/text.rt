@@ -1,10 +1,10 @@
 // A line of text: from its characters, attributes and font to the entries of the lent line.
-ghost use Rattle.std.specs.Prelude.{◌≡◌, true, cond, ◌+◌, ◌*◌, ◌%◌, ◌≤◌, ◌<◌, eqb, length};
+ghost use Rattle.std.specs.Prelude.{◌≡◌, true, cond, ◌+◌, ◌*◌, ◌/◌, ◌%◌, ◌≤◌, ◌<◌, eqb, length};
 ghost use Rattle.vram.specs.Memory.{good_length, byte_at};
-ghost use Rattle.pixels.specs.Draw.{filled};
+ghost use Rattle.pixels.specs.Pixels.{each};
 ghost use Rattle.pixels.specs.Fills.{inks_of, ink_of, background_of, lit_table, lit_of, glyph_of, glyph_pixel, column_pixel};
 
-use super::fills::{Dot, TRANSPARENT, no_trans, shade, trans15};
+use super::fills::{Dot, Shades, TRANSPARENT};
 
 // What a character shows on one font line: the line's bits, and the entries of its pixels that are set and that are not.
 #[derive(Clone, Copy)]
@@ -22,26 +22,22 @@ pub struct Inks {
     pub fifteen: bool,
 }
 
-// The inks of a line. A background without a colour is colour 128, and clear.
-pub fn inks_of(video: u8, palette: u8) -> Inks
-    ensures { result ≡ inks_of video palette }
-{
-    let bare = shade(
-        video,
-        palette,
-        Dot {
+impl Inks {
+    // The inks of a line. A background without a colour is colour 128, and clear.
+    pub fn new(shades: Shades) -> Inks
+        ensures { result ≡ inks_of shades.video shades.palette }
+    {
+        let bare = Dot {
             colour: 128,
             clear: true,
-        },
-    );
-    Inks {
-        palette,
-        bare,
-        fifteen: !no_trans(video) & trans15(video),
+        };
+        Inks {
+            palette: shades.palette,
+            bare: shades.shade(bare),
+            fifteen: !shades.no_trans() & shades.trans15(),
+        }
     }
-}
 
-impl Inks {
     // The entry of a colour that is not clear.
     fn ink(self, colour: u8) -> u16
         ensures { result ≡ ink_of self colour }
@@ -61,39 +57,16 @@ impl Inks {
     }
 }
 
-// A character's byte on the font line, from the address of that line in character 0 on. A good length less one is a mask.
-fn font_byte(mem: &[u8], font: u32, char: u8) -> u8
-    requires { good_length (length mem.now) ≡ true }
-    ensures { result ≡ byte_at mem.now font (char * 8) }
-{
-    mem[(font as usize + char as usize * 8) & (mem.len() - 1)]
-}
-
-// Character c of the line on its font line. A set pixel has the attribute's low seven bits.
-fn glyph_at(piece: &[u8], mem: &[u8], font: u32, inks: Inks, c: usize) -> Glyph
-    requires { (c * 2 + 1 < length piece.now) × (c ≤ 100) × (good_length (length mem.now) ≡ true) }
-    ensures { result ≡ glyph_of piece.now mem.now font inks c }
-{
-    let char = piece[c * 2];
-    let attribute = piece[c * 2 + 1];
-    let set = inks.ink(attribute % 128);
-    let unset = inks.background(attribute);
-    Glyph {
-        bits: font_byte(mem, font, char),
-        set,
-        unset,
-    }
-}
-
-// For each nibble whether its bits are set, the highest first.
+// For each nibble whether its bits are set, the highest first. It is copied before it is lent: the browser's module has no global (docs/PROMISES.md).
 const LITS: [u16; 64] = [
     0, 0, 0, 0, 0, 0, 0, 1, 0, 0, 1, 0, 0, 0, 1, 1, 0, 1, 0, 0, 0, 1, 0, 1, 0, 1, 1, 0, 0, 1, 1, 1,
     1, 0, 0, 0, 1, 0, 0, 1, 1, 0, 1, 0, 1, 0, 1, 1, 1, 1, 0, 0, 1, 1, 0, 1, 1, 1, 1, 0, 1, 1, 1, 1,
 ];
 
 // Whether a part of a font line is set, as a number.
-fn lit(lits: &[u16], bits: u8, part: usize) -> u16
-    requires { (lits.now ≡ lit_table) × (part < 8) }
+fn lit(lits: &[u16; 64], bits: u8, part: usize) -> u16
+    requires table { lits.now ≡ lit_table }
+    requires part { part < 8 }
     ensures { result ≡ lit_of bits part }
 {
     if part < 4 {
@@ -123,93 +96,93 @@ impl Glyph {
         }
     }
 
-    // All eight at the start of what is lent. By a table and a sum, where nothing is asked, the compiler draws them at once (docs/SPEED.md).
-    fn put(self, lits: &[u16], line: &mut [u16])
-        requires { (lits.now ≡ lit_table) × (8 ≤ length line.old) }
-        ensures { line.new ≡ filled (glyph_pixel self) 8 line.old }
+    // All eight. By a table and a sum, where nothing is asked, the compiler draws them at once (docs/SPEED.md).
+    #[tactic(auto, using(crate::proofs::Each::each_all))]
+    fn put(self, lits: &[u16; 64], line: &mut [u16])
+        requires table { lits.now ≡ lit_table }
+        requires eight { length line.old ≡ 8 }
+        ensures { line.new ≡ each (glyph_pixel self) 0 8 }
     {
-        let mut part = 0;
-        while part < 8 {
+        for part in 0..8 {
             line[part] = chosen(lit(lits, self.bits, part), self.set, self.unset);
-            part += 1;
         }
     }
 }
 
-// Some pixels of character c, from a part on: of one that is cut.
-fn cut(
-    piece: &[u8],
-    mem: &[u8],
-    font: u32,
-    inks: Inks,
-    c: usize,
-    part: usize,
-    line: &mut [u16],
-    count: usize,
-)
-    requires { (c * 2 + 1 < length piece.now) × (c ≤ 100) × (part + count ≤ 8) × (count ≤ length line.old) × (good_length (length mem.now) ≡ true) }
-    ensures { line.new ≡ filled (column_pixel piece.now mem.now font inks (c * 8 + part)) count line.old }
-{
-    let glyph = glyph_at(piece, mem, font, inks, c);
-    let mut i = 0;
-    while i < count {
-        line[i] = glyph.pixel((part + i) as u8);
-        i += 1;
-    }
+// What a line of text is drawn from: its data in one piece, memory, the address of character 0's font line, and its inks.
+#[derive(Clone, Copy)]
+pub struct Text<'a> {
+    pub piece: &'a [u8],
+    pub mem: &'a [u8],
+    pub font: u32,
+    pub inks: Inks,
+    ghost good: { good_length (length mem.now) ≡ true },
 }
 
-// Some whole characters, from one on.
-fn characters(
-    piece: &[u8],
-    mem: &[u8],
-    font: u32,
-    inks: Inks,
-    from: usize,
-    line: &mut [u16],
-    count: usize,
-)
-    requires { (count * 8 ≤ length line.old) × (from + count ≤ 85) × ((from + count) * 2 ≤ length piece.now) × (good_length (length mem.now) ≡ true) }
-    ensures { line.new ≡ filled (column_pixel piece.now mem.now font inks (from * 8)) (count * 8) line.old }
-{
-    let lits = LITS;
-    let mut c = 0;
-    while c < count {
-        let glyph = glyph_at(piece, mem, font, inks, from + c);
-        let at = c * 8;
-        glyph.put(&lits, &mut line[at..]);
-        c += 1;
+impl Text<'_> {
+    // A character's byte on the font line. A good length less one is a mask.
+    fn font_byte(self, char: u8) -> u8
+        ensures { result ≡ byte_at self.entry.mem.now self.entry.font (char * 8) }
+    {
+        self.mem[(self.font as usize + char as usize * 8) & (self.mem.len() - 1)]
     }
-}
 
-// The whole line. With hscroll the first character is cut on the left, and the one more on the right.
-pub fn fill(
-    piece: &[u8],
-    mem: &[u8],
-    font: u32,
-    inks: Inks,
-    hscroll: usize,
-    line: &mut [u16],
-    count: usize,
-)
-    requires { (count ≤ length line.old) × (count ≤ 672) × (count % 8 ≡ 0) × (8 ≤ count) × (hscroll < 8) × (length piece.now % 2 ≡ 0) × (count + hscroll ≤ length piece.now * 4) × (good_length (length mem.now) ≡ true) }
-    ensures { line.new ≡ filled (column_pixel piece.now mem.now font inks hscroll) count line.old }
-{
-    if hscroll == 0 {
-        characters(piece, mem, font, inks, 0, line, count / 8);
-        return;
+    // Character c of the line on its font line. A set pixel has the attribute's low seven bits.
+    fn glyph_at(self, c: usize) -> Glyph
+        requires { c * 2 + 1 < length self.piece.now }
+        ensures { result ≡ glyph_of self.entry.piece.now self.entry.mem.now self.entry.font self.entry.inks c }
+    {
+        let attribute = self.piece[c * 2 + 1];
+        Glyph {
+            bits: self.font_byte(self.piece[c * 2]),
+            set: self.inks.ink(attribute % 128),
+            unset: self.inks.background(attribute),
+        }
     }
-    let shown = 8 - hscroll;
-    cut(piece, mem, font, inks, 0, hscroll, line, shown);
-    characters(piece, mem, font, inks, 1, &mut line[shown..], count / 8 - 1);
-    let last = count - hscroll;
-    cut(
-        piece,
-        mem,
-        font,
-        inks,
-        count / 8,
-        0,
-        &mut line[last..],
-        hscroll,
-    );
+
+    // Pixels of character c, from a part on: of one that is cut.
+    fn cut(self, c: usize, part: usize, line: &mut [u16])
+        requires within { c * 2 + 1 < length self.piece.now }
+        requires parts { part + length line.old ≤ 8 }
+        ensures { line.new ≡ each (column_pixel self.entry.piece.now self.entry.mem.now self.entry.font self.entry.inks (c * 8 + part)) 0 (length line.old) }
+    {
+        let glyph = self.glyph_at(c);
+        for (i, entry) in line.iter_mut().enumerate() {
+            *entry = glyph.pixel((part + i) as u8);
+        }
+    }
+
+    // Whole characters, from one on.
+    fn characters(self, from: usize, line: &mut [u16])
+        requires whole { length line.old % 8 ≡ 0 }
+        requires within { (from + length line.old / 8) * 2 ≤ length self.piece.now }
+        ensures { line.new ≡ each (column_pixel self.entry.piece.now self.entry.mem.now self.entry.font self.entry.inks (from * 8)) 0 (length line.old) }
+    {
+        let lits = LITS;
+        for c in 0..line.len() / 8 {
+            let at = c * 8;
+            self.glyph_at(from + c).put(&lits, &mut line[at..at + 8]);
+        }
+    }
+
+    // The whole line. With hscroll the first character is cut on the left, and the one more on the right.
+    pub fn fill(self, hscroll: usize, line: &mut [u16])
+        requires cells { length line.old % 8 ≡ 0 }
+        requires some { 8 ≤ length line.old }
+        requires scroll { hscroll < 8 }
+        requires even { length self.piece.now % 2 ≡ 0 }
+        requires room { length line.old + hscroll ≤ length self.piece.now * 4 }
+        ensures { line.new ≡ each (column_pixel self.entry.piece.now self.entry.mem.now self.entry.font self.entry.inks hscroll) 0 (length line.old) }
+    {
+        if hscroll == 0 {
+            self.characters(0, line);
+            return;
+        }
+        let count = line.len();
+        let (first, rest) = line.split_at_mut(8 - hscroll);
+        let (whole, last) = rest.split_at_mut(count - 8);
+        self.cut(0, hscroll, first);
+        self.characters(1, whole);
+        self.cut(count / 8, 0, last);
+    }
 }

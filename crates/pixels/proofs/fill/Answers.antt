@@ -1,29 +1,28 @@
 -- `pixels::fill` meets its contract: the piece is memory's own, or gathered. Assumes nothing.
+use mathlib.Core.Path.{sym, ap, ◌∙◌}
 use native.Mathlib.Omega.{arith}
+use lib.ListN.{replicate, length-replicate}
+use lib.Seq.{length-take-le}
 use Rattle.vram.proofs.Length.{good}
-use Rattle.pixels.proofs.Filling.{front_size, front_room}
-use Rattle.pixels.proofs.Piece.{read_most, inside, gathered}
+use Rattle.vram.specs.Memory.{byte_at}
+use Rattle.pixels.specs.Pixels.{each}
+use Rattle.pixels.proofs.Piece.{read_most, inside}
 use Rattle.pixels.proofs.fill.Goals as goal
 
-pub paint-requires : goal.paint-requires
-paint-requires c =
+pub paint-requires-clause-piece : goal.paint-requires-clause-piece
+paint-requires-clause-piece c =
     let a = c.args in
-    let p = c.requires in
-    (p.0, p.1, p.2, inside a.mem.now a.settings _ c.read_bytes-n.ensures c.if-to-mem.true (good _ p.3).most, p.3)
+    inside a.mem.now a.settings _ c.read_bytes-n.ensures c.if-to-mem.true (good _ c.requires.3).most
 
-pub gather-requires : goal.gather-requires
-gather-requires c =
-    let most = read_most c.args.settings c.requires.0 in
-    (omega (arith, c.read_bytes-n.ensures, most), omega (arith, c.read_bytes-n.ensures, most))
+pub slice_bounds-room-end : goal.slice_bounds-room-end
+slice_bounds-room-end c = omega (arith, c.read_bytes-n.ensures, read_most c.args.settings c.requires.0)
 
 pub slice_bounds-piece-end : goal.slice_bounds-piece-end
-slice_bounds-piece-end c = front_room _ _ _ _ c.gather.ensures
+slice_bounds-piece-end c = sym (length-take-le c.read_bytes-n.result (replicate 336 0) (simp length-replicate (omega (arith, c.read_bytes-n.ensures, read_most c.args.settings c.requires.0))))
 
-pub slice_bounds-paint-end-2 : goal.slice_bounds-paint-end-2
-slice_bounds-paint-end-2 c = front_size _ _ _ _ c.gather.ensures
-
-pub paint-requires-2 : goal.paint-requires-2
-paint-requires-2 c =
+pub paint-requires-2-clause-piece : goal.paint-requires-2-clause-piece
+paint-requires-2-clause-piece c =
     let a = c.args in
-    let p = c.requires in
-    (p.0, p.1, p.2, gathered a.mem.now a.settings _ c.read_bytes-n.ensures _ _ c.gather.ensures, p.3)
+    let n = c.read_bytes-n.result in
+    let long = length-take-le n (replicate 336 0) (simp length-replicate (omega (arith, c.read_bytes-n.ensures, read_most c.args.settings c.requires.0))) in
+    c.gather.ensures ∙ ap (each (byte_at a.mem.now a.settings.overlay.address) 0) (long ∙ c.read_bytes-n.ensures)

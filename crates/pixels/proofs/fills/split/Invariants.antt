@@ -1,12 +1,9 @@
--- `pixels::fills::split` meets its contract. The loop's invariant is `Filling`, two colours a byte. Assumes nothing.
-use Prim.Native.Nat.{◌-◌, ◌*◌, ◌≤◌}
-use lib.ListN.{length}
+-- `pixels::fills::split` meets its contract. Assumes nothing.
+use mathlib.Core.Path.{◌≡◌}
+use Prim.Native.Nat.{ℕ, ◌*◌, ◌<◌}
+use lib.ListN.{get_or}
 use Rattle.pixels.specs.Fills.{nibble_colour}
-use Rattle.pixels.proofs.Filling.{Filling}
 use Rattle.pixels.proofs.fills.split.Given as goal
 
 abbrev pub invariant-loop-k : goal.invariant-loop-k
-invariant-loop-k l = Filling (nibble_colour l.piece) l.initial.colours l.colours (l.k * 2) × (l.k ≤ length l.piece)
-
-abbrev pub decreases-loop-k : goal.decreases-loop-k
-decreases-loop-k l = length l.piece - l.k
+invariant-loop-k l = (j : ℕ) → j < l.k * 2 → get_or l.colours j 0 ≡ nibble_colour l.piece j
