@@ -47,13 +47,12 @@ module _ (L : ℕ) (g : good_length L ≡ true) where
     part_flat l count e = record { level = l; to_in = rw e before_wrap_some.0.inside; from_in = λ z. rw e (before_wrap_some.1 z) }
 
 -- the number of bytes drawn
-module _ (L : ℕ) (b : Block) (s : Stretch) where
-  module _ (t : (good_length L && level_of b s.along s.step) ≡ true) where
-    -- some of some
-    pub some_drawn : 0 < s.count → 0 < flat_count L b s
-    unfolding flat_count
-    some_drawn h = rw t ((before_wrap_some L (both (good_length L) _ t).0 b s).0.some h)
+module _ (L : ℕ) (b : Block) (s : Stretch) (t : (good_length L && level_of b s.along s.step) ≡ true) where
+  -- some of some
+  pub some_drawn : 0 < s.count → 0 < flat_count L b s
+  unfolding flat_count
+  some_drawn h = rw t ((before_wrap_some L (both (good_length L) _ t).0 b s).0.some h)
 
-    pub few_drawn : flat_count L b s ≤ s.count
-    unfolding flat_count
-    few_drawn = rw t (before_wrap_some L (both (good_length L) _ t).0 b s).0.few
+  pub few_drawn : flat_count L b s ≤ s.count
+  unfolding flat_count
+  few_drawn = rw t (before_wrap_some L (both (good_length L) _ t).0 b s).0.few
