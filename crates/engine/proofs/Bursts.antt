@@ -1,6 +1,6 @@
 -- What holds at each turn of a burst: the rest of the budget makes of it what the whole makes of what the burst was handed. Assumes nothing.
 use mathlib.Core.Path.{◌≡◌, refl, sym, ap, subst, ◌∙◌}
-use mathlib.Core.Bool.{Bool, true, false, cond}
+use mathlib.Core.Bool.{true}
 use mathlib.Core.List.{List}
 use mathlib.Core.Logic.{inl, inr, ⊎_elim}
 use Prim.Native.Nat.{ℕ, zero, suc, ◌+◌, ◌-◌, ◌*◌, ◌≤◌, ◌<◌, min}
@@ -27,7 +27,7 @@ use Rattle.engine.specs.declared.Place.{Place}
 use Rattle.engine.specs.declared.Sofar.{Sofar}
 use Rattle.engine.specs.Tick.{busy_at, ended, moved_on, byte_tick, tick_blitter, tick_memory, tick_count}
 use Rattle.engine.specs.Run.{ticked, run_for, progress}
-use Rattle.engine.specs.Engine.{place_at, so_far, Placed, BurstFrom, BurstTo, Column, Row, Reach, tall_of, source_step, dest_step, ahead_row, ahead_col, stretch_at, left_at}
+use Rattle.engine.specs.Engine.{place_at, so_far, Placed, BurstFrom, BurstTo, Column, Row, Reach, source_step, dest_step, ahead_row, ahead_col, stretch_at, left_at}
 use Rattle.blitter.proofs.Sound.{Inside, sound_test, first_inside}
 use Rattle.engine.proofs.Tick.{busy_sound, ended_sound}
 use Rattle.engine.proofs.Runs.{run_tick}
@@ -96,7 +96,7 @@ module _ {run : Sofar} {first : List ℕ} {budget : ℕ} where
           ∙ g.same
 
       long_on : length next.mem ≡ length first
-      long_on = written_length run.blitter.block _ _ now.mem ∙ g.long
+      long_on = grind (arith, written_length)
 
       few_on : next.accesses ≤ 21 * (done + 1)
       unfolding byte
@@ -245,13 +245,11 @@ module _ {run : Sofar} {first : List ℕ} {budget : ℕ} {now : Trace} {row col 
   -- its accesses are few
   stretch_few : d.accesses ≤ 3 * count
   unfolding trace_of
-  stretch_few =
-      rw (s.drew, board_in)
-      (omega (arith, strokes_few run.blitter.block (source_step run.blitter.block) (dest_step run.blitter.block) count (source_address run.blitter.block row col) (dest_address run.blitter.block row col) (trace now.mem now.note 0)))
+  stretch_few = grind (arith, strokes_few, board_in)
 
   -- so the counts fit
   pub stretch_made : Fits w32 (now.accesses + d.accesses)
-  stretch_made = record { fits = omega (arith, s.going.counted, s.going.from.small, s.room, stretch_few) }
+  stretch_made = grind (arith, stretch_few)
 
   pub stretch_done : Fits w32 (done + count)
   stretch_done = record { fits = omega (arith, s.going.from.small, s.room) }

@@ -35,11 +35,11 @@ module _ {start : Blitter} {first : List ℕ} {budget : ℕ} where
     -- the budget is used
     pub going_used : budget ≤ run.counts.ticks → so_far run mem ≡ run_for budget (begun start first)
     unfolding run_for
-    going_used h = ap (λ (k : ℕ). run_for k (so_far run mem)) (none_left budget run.counts.ticks h) ∙ g.same
+    going_used h = grind (arith, none_left)
 
     -- the flags are 0
     pub going_idle : run.blitter.flags ≡ 0 → so_far run mem ≡ run_for budget (begun start first)
-    going_idle e = sym (run_idle (budget - run.counts.ticks) (so_far run mem) e) ∙ g.same
+    going_idle e = grind (arith, run_idle)
 
     module _ (h : run.counts.ticks < budget) where
       -- a load

@@ -34,7 +34,7 @@ module _ (b : Block) (row col k : ℕ) where
 
     column_on : source_address b (ahead_row b row k) (ahead_col b col k) ≡ (source_address b row col + k * source_step b) % 524288
     unfolding source_address
-    column_on = rw (c.tall, flat, div-one (row + k), div-one row) (down_on b.source row (col / zoom_x b % pattern_of b) k)
+    column_on = grind (arith, flat, div-one, down_on)
 
   -- along a row
   module _ (r : Row b col (suc k)) where

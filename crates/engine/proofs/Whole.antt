@@ -6,7 +6,7 @@ use native.Mathlib.Nat.{zero-div, zero-mod, mul-le-mul}
 use native.Mathlib.Omega.{arith}
 use borrow.Author.Tests.{eq-eqb, ne_eqb}
 use Rattle.block.specs.Block.{columns_of, block_at}
-use Rattle.block.specs.Byte.{written, struck_at, row_at, col_at, size_of, block_mem, block_note}
+use Rattle.block.specs.Byte.{written, struck_at, size_of, block_mem, block_note}
 use Rattle.block.specs.declared.Block.{Block}
 use Rattle.block.specs.declared.Note.{Note}
 use Rattle.block.proofs.Byte.{block_none, block_next, note_none, note_next}
@@ -46,12 +46,7 @@ module _ (b : Blitter) where
         (n : ℕ) (b' : Blitter) → after n (machine (busy_on b note 0) mem) ≡ machine (busy_on b (block_note b.block n mem note) n) (block_mem b.block n mem)
         → moved_on (busy_on b (block_note b.block n mem note) n) (block_note b.block (suc n) mem note) ≡ b'
         → after (suc n) (machine (busy_on b note 0) mem) ≡ machine b' (block_mem b.block (suc n) mem)
-    step_on n b' before e =
-        after_suc n _
-        ∙ ap tock before
-        ∙ busy_tock (row_at b.block n) (col_at b.block n) (block_note b.block n mem note) (block_mem b.block n mem)
-        ∙ sym (λ i. machine (moved_on (busy_on b (block_note b.block n mem note) n) (note_next b.block mem n note i)) (block_next b.block mem n i))
-        ∙ ap (λ (x : Blitter). machine x (block_mem b.block (suc n) mem)) e
+    step_on n b' before e = grind (arith, after_suc, busy_tock, note_next, block_next)
 
     -- a busy blitter after n bytes of its block
     pub during :
