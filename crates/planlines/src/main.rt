@@ -19,178 +19,179 @@ mod number;
 
 use boardtext::lines;
 use frame::Frame;
-use plantext::files;
+use plantext::files::Host;
+use print::RefusalLine;
 use refusal::Outcome;
 use std::env::Env;
-use std::io;
 use std::rt::Files;
+use std::{fmt, io};
+use vram::Vram;
 
 // Where a list's first record goes over the top of memory.
 const TOP: u32 = 524280;
 
-// Which lines are printed: as many as show each band, or so many from one on.
+const USAGE: &str = "usage: planlines FILE [ADDRESS [LINE]]\n       planlines --bands FILE..\n";
+
+// What --help prints below the usage.
+const HELP: &str = "\
+Installs the display list of FILE's plan at ADDRESS and switches it on, and prints
+the settings of each of the 240 lines, lines that are alike as one, or of LINE alone;
+then the address of the record that made the line, and the number of its item in the
+plan, from 0. ADDRESS is 0 to 524287, or 0x0 to 0x7FFFF, and 0 where it is not given;
+LINE is 0 to 239, or 0x0 to 0xEF. A plan that is refused prints the number of the
+refusal and the item (docs/HELP.md).
+--bands installs each list over the top of memory, at 524280, and prints the lines
+where a band begins or ends, and each ninth.
+Beside it: planxdl prints the list; desk-run, at the top of the repository, builds
+a program and runs it: ./desk-run planxdl --help
+";
+
+// Why the arguments are not taken.
 #[derive(Clone, Copy)]
-enum View {
-    Bands,
-    Lines { from: u16, count: u16 },
+enum Misuse {
+    Count,
+    Address,
+    Line,
 }
 
-fn printed<R: Print>(rt: &R, mem: &[u8], at: u32, view: View) -> io::Result<()> {
-    match view {
-        View::Bands => lines::show_bands(rt, mem, at),
-        View::Lines { from, count } => lines::show_joined(rt, mem, at, from, count),
+impl fmt::Display for Misuse {
+    fn fmt<W: fmt::Write>(&self, f: &mut fmt::Formatter<W>) -> fmt::Result {
+        f.write_str(match self {
+            Misuse::Count => "",
+            Misuse::Address => "ADDRESS is 0 to 524287, or 0x0 to 0x7FFFF\n",
+            Misuse::Line => "LINE is 0 to 239, or 0x0 to 0xEF\n",
+        })?;
+        f.write_str(USAGE)
     }
 }
 
-fn installed<R: Print>(rt: &R, mem: &mut [u8], list: &[u8], at: u32, view: View) -> io::Result<()> {
-    let r = vram::install(mem, list, at);
-    match r {
-        Outcome::Refused(why) => print::refused(rt, why, 0),
-        Outcome::Done => printed(rt, mem, at, view),
-    }
-}
-
-// Memory is not 0, so that a record read past the list would show.
-fn shown<R: Print>(rt: &R, plan: &[u8], at: u32, view: View) -> io::Result<()> {
-    let mut list = [0u8; 5280];
-    let n = plantext::compiled(plan, &mut list, rt);
-    if n == 0 {
-        return Ok(());
-    }
-    let mut mem = [0xEEu8; 16384];
-    installed(rt, &mut mem, &list[..n], at, view)
-}
-
-// The plan in the file that an argument names.
-fn file<R: Env + Files + Input + Print, E: Print>(
-    rt: &R,
-    errors: &E,
-    i: usize,
+// Where the list goes, and which lines are printed: so many from one on.
+#[derive(Clone, Copy)]
+struct Wanted {
     at: u32,
-    view: View,
-) -> io::Result<()> {
-    let mut plan = [0u8; 8192];
-    let got = files::read_plan(rt, errors, i, &mut plan);
-    if got.failed {
-        return Ok(());
-    }
-    match view {
-        View::Bands => files::print_name(rt, i, b"\n")?,
-        View::Lines { from, count } => (),
-    }
-    let n = got.bytes;
-    shown(rt, &plan[..n], at, view)
+    from: u16,
+    count: u16,
 }
 
-// Every plan that an argument behind --bands names.
-fn bands<R: Env + Files + Input + Print, E: Print>(
+fn address<R: Env, E>(host: &Host<R, E>, i: usize) -> Result<u32, Misuse> {
+    match number::of(host, i) {
+        Some(at) if at < Vram::ADDRESSES => Ok(at),
+        _ => Err(Misuse::Address),
+    }
+}
+
+fn line<R: Env, E>(host: &Host<R, E>, i: usize) -> Result<u16, Misuse> {
+    match number::of(host, i) {
+        Some(line) if line < u32::from(Frame::LINES) => Ok(line as u16),
+        _ => Err(Misuse::Line),
+    }
+}
+
+fn lines_at(at: u32) -> Wanted {
+    Wanted {
+        at,
+        from: 0,
+        count: Frame::LINES,
+    }
+}
+
+// Where both are wrong, the line is told.
+fn line_at<R: Env, E>(host: &Host<R, E>) -> Result<Wanted, Misuse> {
+    let from = line(host, 3)?;
+    Ok(Wanted {
+        at: address(host, 2)?,
+        from,
+        count: 1,
+    })
+}
+
+fn asked<R: Env, E>(host: &Host<R, E>) -> Result<Wanted, Misuse> {
+    match host.count() {
+        2 => Ok(lines_at(0)),
+        3 => Ok(lines_at(address(host, 2)?)),
+        4 => line_at(host),
+        _ => Err(Misuse::Count),
+    }
+}
+
+// A plan's list at an address, as `show` prints the memory. Memory is not 0, so that a record read past the list would show.
+fn shown<R: Print, F: FnOnce(&[u8]) -> io::Result<()>>(
     rt: &R,
-    errors: &E,
-    arguments: usize,
+    plan: &[u8],
+    at: u32,
+    show: F,
+) -> io::Result<()>
+    requires { F.IsAlwaysCallable show }
+{
+    let mut list = [0u8; 5280];
+    let Some(n) = plantext::compiled(plan, &mut list, rt) else {
+        return Ok(());
+    };
+    let mut mem = [0xEEu8; 16384];
+    match vram::install(&mut mem, &list[..n], at) {
+        Outcome::Done => show(&mem),
+        Outcome::Refused(why) => rt.println(RefusalLine::from(why)),
+    }
+}
+
+// The plan in the file that an argument behind --bands names.
+fn bands_of<R: Env + Files + Input + Print, E: Print>(
+    host: &Host<R, E>,
+    i: usize,
 ) -> io::Result<()> {
+    let rt = host.rt;
+    let mut plan = [0u8; 8192];
+    let Some(n) = host.read_plan(i, &mut plan) else {
+        return Ok(());
+    };
+    host.print_name(i, b"\n")?;
+    shown(rt, &plan[..n], TOP, |mem| lines::show_bands(rt, mem, TOP))
+}
+
+fn bands<R: Env + Files + Input + Print, E: Print>(host: &Host<R, E>) -> io::Result<()> {
+    let arguments = host.count();
     if arguments < 3 {
-        usage(errors)?;
+        host.errors.print(USAGE)?;
     }
     for i in 2..arguments {
-        file(rt, errors, i, TOP, View::Bands)?;
+        bands_of(host, i)?;
     }
     Ok(())
 }
 
-fn usage<P: Print>(to: &P) -> io::Result<()> {
-    print::text(
-        to,
-        b"usage: planlines FILE [ADDRESS [LINE]]\n       planlines --bands FILE..\n",
-    )
-}
-
-fn help<R: Print>(rt: &R) -> io::Result<()> {
-    usage(rt)?;
-    print::text(
-        rt,
-        b"Installs the display list of FILE's plan at ADDRESS and switches it on, and prints\n",
-    )?;
-    print::text(
-        rt,
-        b"the settings of each of the 240 lines, lines that are alike as one, or of LINE alone;\n",
-    )?;
-    print::text(
-        rt,
-        b"then the address of the record that made the line, and the number of its item in the\n",
-    )?;
-    print::text(
-        rt,
-        b"plan, from 0. ADDRESS is 0 to 524287, or 0x0 to 0x7FFFF, and 0 where it is not given;\n",
-    )?;
-    print::text(
-        rt,
-        b"LINE is 0 to 239, or 0x0 to 0xEF. A plan that is refused prints the number of the\n",
-    )?;
-    print::text(rt, b"refusal and the item (docs/HELP.md).\n")?;
-    print::text(
-        rt,
-        b"--bands installs each list over the top of memory, at 524280, and prints the lines\n",
-    )?;
-    print::text(rt, b"where a band begins or ends, and each ninth.\n")?;
-    print::text(
-        rt,
-        b"Beside it: planxdl prints the list; desk-run, at the top of the repository, builds\n",
-    )?;
-    print::text(rt, b"a program and runs it: ./desk-run planxdl --help\n")
-}
-
-fn lines_at<R: Env + Files + Input + Print, E: Print>(
-    rt: &R,
-    errors: &E,
-    at: u32,
-    from: u16,
-    count: u16,
-) -> io::Result<()> {
-    if at < number::NONE {
-        file(rt, errors, 1, at, View::Lines { from, count })
-    } else {
-        print::text(errors, b"ADDRESS is 0 to 524287, or 0x0 to 0x7FFFF\n")?;
-        usage(errors)
-    }
-}
-
-fn line_at<R: Env + Files + Input + Print, E: Print>(
-    rt: &R,
-    errors: &E,
-    at: u32,
-    line: u32,
-) -> io::Result<()> {
-    if line < Frame::LINES as u32 {
-        lines_at(rt, errors, at, line as u16, 1)
-    } else {
-        print::text(errors, b"LINE is 0 to 239, or 0x0 to 0xEF\n")?;
-        usage(errors)
-    }
-}
-
+// The plan in the file that the first argument names.
 fn joined<R: Env + Files + Input + Print, E: Print>(
-    rt: &R,
-    errors: &E,
-    arguments: usize,
+    host: &Host<R, E>,
+    asked: Wanted,
 ) -> io::Result<()> {
-    match arguments {
-        2 => lines_at(rt, errors, 0, 0, Frame::LINES),
-        3 => lines_at(rt, errors, number::of(rt, 2), 0, Frame::LINES),
-        4 => line_at(rt, errors, number::of(rt, 2), number::of(rt, 3)),
-        _ => usage(errors),
+    let rt = host.rt;
+    let Wanted { at, from, count } = asked;
+    let mut plan = [0u8; 8192];
+    match host.read_plan(1, &mut plan) {
+        Some(n) => shown(rt, &plan[..n], at, |mem| {
+            lines::show_joined(rt, mem, at, from, count)
+        }),
+        None => Ok(()),
     }
 }
 
 fn main(rt: HostRuntime) -> io::Result<()> {
     let errors = rt.stderr();
-    let arguments = files::count(&rt);
-    if files::is(&rt, 1, b"--help") {
-        help(&rt)
-    } else if files::is(&rt, 1, b"--bands") {
-        bands(&rt, &errors, arguments)
-    } else if files::is_option(&rt, 1) {
-        usage(&errors)
-    } else {
-        joined(&rt, &errors, arguments)
+    let host = Host {
+        rt: &rt,
+        errors: &errors,
+    };
+    if host.is(1, b"--help") {
+        return print!(rt; "{USAGE}{HELP}");
+    }
+    if host.is(1, b"--bands") {
+        return bands(&host);
+    }
+    if host.is_option(1) {
+        return errors.print(USAGE);
+    }
+    match asked(&host) {
+        Ok(asked) => joined(&host, asked),
+        Err(why) => errors.print(why),
     }
 }

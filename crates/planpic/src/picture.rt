@@ -1,180 +1,126 @@
 // The picture of a memory's display list: 240 lines of 672 points, three bytes a point.
+ghost use Rattle.std.specs.Prelude.{◌≤◌, length};
+
 use board::Board;
 use frame::{Frame, FrameStart, LineReport};
 use pixels::Drawn;
+use plantext::files::Host;
+use print::RefusalLine;
 use settings::Settings;
 use std::io;
 
-// A point of the picture.
-#[derive(Clone, Copy)]
-struct Point {
-    red: u8,
-    green: u8,
-    blue: u8,
-}
+// Red, green and blue.
+type Point = [u8; 3];
 
 const WIDTH: usize = 672;
 
 // Beside a line, and where none is drawn.
-fn beside() -> Point {
-    Point {
-        red: 16,
-        green: 16,
-        blue: 16,
-    }
-}
+const BESIDE: Point = [16, 16, 16];
+
+// A transparent pixel.
+const CLEAR: Point = [32, 32, 48];
 
 // 65,535 is transparent; else the colour is the low byte: three bits of red, three of green, two of blue.
-fn shown(pixel: u16) -> Point {
+fn point(pixel: u16) -> Point {
     if pixel == 65535 {
-        return Point {
-            red: 32,
-            green: 32,
-            blue: 48,
-        };
+        return CLEAR;
     }
     let c = pixel % 256;
-    Point {
-        red: (c / 32 * 255 / 7) as u8,
-        green: (c / 4 % 8 * 255 / 7) as u8,
-        blue: (c % 4 * 85) as u8,
-    }
+    [
+        (c / 32 * 255 / 7) as u8,
+        (c / 4 % 8 * 255 / 7) as u8,
+        (c % 4 * 85) as u8,
+    ]
 }
 
-// How many points a line of n pixels has, which is at most 672: two for a pixel of SR, four for one of LR.
-fn points(mode: u8, n: usize) -> usize {
-    if WIDTH < n {
-        return n;
-    }
+// How many points a pixel is wide: two in SR, four in LR.
+fn points(mode: u8) -> usize
+    ensures { (1 ≤ result) × (result ≤ 4) }
+{
     match mode {
-        2 => n * 2,
-        4 => n * 4,
-        _ => n,
+        2 => 2,
+        4 => 4,
+        _ => 1,
     }
 }
 
-// The pixel that a point of the line is in.
-fn pixel_of(mode: u8, i: usize) -> usize {
-    match mode {
-        2 => i / 2,
-        4 => i / 4,
-        _ => i,
+// A line in the middle of its row; none where it is too long.
+fn row(line: &[u16], points: usize) -> Option<[Point; WIDTH]>
+    requires { (length line.now ≤ WIDTH) × (1 ≤ points) × (points ≤ 4) }
+{
+    let left = WIDTH.checked_sub(line.len() * points)? / 2;
+    let mut row = [BESIDE; WIDTH];
+    for (wide, pixel) in row[left..].chunks_exact_mut(points).zip(line) {
+        wide.fill(point(*pixel));
+    }
+    Some(row)
+}
+
+fn write_row<R: Print>(rt: &R, line: &[u16], points: usize) -> io::Result<()>
+    requires { (length line.now ≤ WIDTH) × (1 ≤ points) × (points ≤ 4) }
+{
+    match row(line, points) {
+        Some(row) => rt.write_all(row.as_flattened()),
+        None => Ok(()),
     }
 }
 
-// A point of the row, whose line begins `left` points from its start.
-fn at(line: &[u16], mode: u8, left: usize, x: usize) -> Point {
-    if x < left {
-        return beside();
-    }
-    let i = pixel_of(mode, x - left);
-    if i < line.len() {
-        shown(line[i])
-    } else {
-        beside()
-    }
-}
-
-// Three bytes a point.
-fn fill_row(row: &mut [u8], line: &[u16], mode: u8, left: usize) {
-    for x in 0..row.len() / 3 {
-        let p = at(line, mode, left, x);
-        row[x * 3] = p.red;
-        row[x * 3 + 1] = p.green;
-        row[x * 3 + 2] = p.blue;
-    }
-}
-
-// A line in the middle of its row.
-fn write_row<R: Print>(rt: &R, line: &[u16], mode: u8) -> io::Result<()> {
-    let mut row = [0u8; 2016];
-    let wide = points(mode, line.len());
-    if WIDTH < wide {
-        return Ok(());
-    }
-    fill_row(&mut row, line, mode, (WIDTH - wide) / 2);
-    print::text(rt, &row)
-}
-
-// The first n entries of a drawn line.
-fn drawn<R: Print>(rt: &R, line: &[u16], n: usize, mode: u8) -> io::Result<()> {
-    if n <= line.len() {
-        write_row(rt, &line[0..n], mode)?;
-    }
-    Ok(())
-}
-
-fn row<R: Print, E: Print>(
-    rt: &R,
-    errors: &E,
+// One line by its settings.
+fn write_line<R: Print, E: Print>(
+    host: &Host<R, E>,
     board: Board,
     settings: Settings,
     mem: &[u8],
 ) -> io::Result<()> {
-    let mut line = [0u16; 672];
-    let overlay = settings.overlay;
-    let told = pixels::draw(board, settings, mem, &mut line);
-    match told {
-        Drawn::Pixels(n) => drawn(rt, &line, n as usize, overlay.mode),
-        Drawn::Refused(why) => print::refused_to(errors, why, 0),
+    let mut line = [0u16; WIDTH];
+    match pixels::draw(board, settings, mem, &mut line) {
+        Drawn::Pixels(n) => match line.get(..usize::from(n)) {
+            Some(line) => write_row(host.rt, line, points(settings.overlay.mode)),
+            None => Ok(()),
+        },
+        Drawn::Refused(why) => host.errors.println(RefusalLine::from(why)),
     }
 }
 
-// One line of the frame, and the frame behind it.
-fn row_of<R: Print, E: Print>(
-    rt: &R,
-    errors: &E,
+// Each line of the frame.
+fn write_lines<R: Print, E: Print>(
+    host: &Host<R, E>,
     board: Board,
-    frame: Frame,
-    mem: &[u8],
-) -> io::Result<Frame> {
-    let next = frame.next_line(mem);
-    let report = next.report;
-    match report {
-        LineReport::Line(s) => row(rt, errors, board, s, mem)?,
-        LineReport::Refused(why) => print::refused_to(errors, why, 0)?,
-    }
-    Ok(next.frame)
-}
-
-fn rows<R: Print, E: Print>(
-    rt: &R,
-    errors: &E,
-    board: Board,
-    start: Frame,
+    mut frame: Frame,
     mem: &[u8],
 ) -> io::Result<()> {
-    let mut frame = start;
-    for i in 0..Frame::LINES {
-        frame = row_of(rt, errors, board, frame, mem)?;
+    for _ in 0..Frame::LINES {
+        let next = frame.next_line(mem);
+        match next.report {
+            LineReport::Line(settings) => write_line(host, board, settings, mem)?,
+            LineReport::Refused(why) => host.errors.println(RefusalLine::from(why))?,
+        }
+        frame = next.frame;
     }
     Ok(())
 }
 
 // A board that is pointed at the list, by its registers.
-fn pointed(list: u32, video: u8) -> Board {
-    let board = Board::new();
-    let low = board.write(0x41, (list % 256) as u8).board;
-    let middle = low.write(0x42, (list / 256 % 256) as u8).board;
-    let high = middle.write(0x43, (list / 65536 % 256) as u8).board;
-    high.write(0x40, video).board
+pub fn pointed(list: u32, video: u8) -> Board {
+    let mut board = Board::new();
+    for (offset, value) in [
+        (0x41, list % 256),
+        (0x42, list / 256 % 256),
+        (0x43, list / 65536 % 256),
+        (0x40, u32::from(video)),
+    ] {
+        board = board.write(offset, value as u8).board;
+    }
+    board
 }
 
-// The picture of the frame that the list at an address gives.
-pub fn write<R: Print, E: Print>(
-    rt: &R,
-    errors: &E,
-    mem: &[u8],
-    list: u32,
-    video: u8,
-) -> io::Result<()> {
-    let board = pointed(list, video);
-    let told = Frame::start(board);
-    match told {
-        FrameStart::Refused(why) => print::refused_to(errors, why, 0),
+// The picture of the frame that a board shows of a memory.
+pub fn write<R: Print, E: Print>(host: &Host<R, E>, board: Board, mem: &[u8]) -> io::Result<()> {
+    match Frame::start(board) {
         FrameStart::Started(frame) => {
-            print::text(rt, b"P6\n672 240\n255\n")?;
-            rows(rt, errors, board, frame, mem)
+            print!(host.rt; "P6\n672 240\n255\n")?;
+            write_lines(host, board, frame, mem)
         }
+        FrameStart::Refused(why) => host.errors.println(RefusalLine::from(why)),
     }
 }

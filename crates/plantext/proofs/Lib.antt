@@ -1,4 +1,5 @@
 -- Laws of the text.
 mod Counting
 mod Line
+mod Listing
 mod Once

@@ -1,8 +1,13 @@
 // Runs planxdl's work on each file that an argument names: each is a case of its input.
 #![tactic(auto)]
 
+use plantext::files::Host;
 use std::io;
 
 fn main(rt: HostRuntime) -> io::Result<()> {
-    plantext::files::list_files(&rt, &rt.stderr(), b": ")
+    let host = Host {
+        rt: &rt,
+        errors: &rt.stderr(),
+    };
+    host.list_files(b": ")
 }

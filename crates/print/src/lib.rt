@@ -2,10 +2,43 @@
 // one of writing; what it leaves of the text may stand there in part.
 #![tactic(auto)]
 
-ghost use Rattle.std.specs.Prelude.{◌<◌};
-
 use refusal::Refusal;
-use std::io;
+use std::{fmt, io};
+
+// HexBytes as two digits each, a space before each.
+#[derive(Clone, Copy)]
+pub struct HexBytes<'a>(pub &'a [u8]);
+
+impl fmt::Display for HexBytes<'_> {
+    fn fmt<W: fmt::Write>(&self, f: &mut fmt::Formatter<W>) -> fmt::Result {
+        for b in self.0 {
+            write!(f, " {b:02X}")?;
+        }
+        Ok(())
+    }
+}
+
+// A refusal as the desk prints it, with the item of a plan that it is of.
+#[derive(Clone, Copy)]
+pub struct RefusalLine {
+    pub why: Refusal,
+    pub item: u32,
+}
+
+// A refusal that has no item of its own has item 0.
+impl From<Refusal> for RefusalLine {
+    fn from(why: Refusal) -> RefusalLine {
+        RefusalLine { why, item: 0 }
+    }
+}
+
+impl fmt::Display for RefusalLine {
+    fn fmt<W: fmt::Write>(&self, f: &mut fmt::Formatter<W>) -> fmt::Result {
+        let number = self.why.number();
+        let item = self.item;
+        write!(f, "refused {number} item {item}")
+    }
+}
 
 pub fn text<P: Print>(to: &P, s: &[u8]) -> io::Result<()> {
     to.write_all(s)
@@ -15,52 +48,24 @@ pub fn number<P: Print>(to: &P, n: u64) -> io::Result<()> {
     to.print(n)
 }
 
-// One digit of sixteen, in upper case.
-fn digit(n: u8) -> u8
-    requires { n < 16 }
-{
-    if n < 10 { 48 + n } else { 55 + n }
-}
-
 // A byte as two digits.
 pub fn hex<P: Print>(to: &P, b: u8) -> io::Result<()> {
-    let two = [digit(b / 16), digit(b % 16)];
-    text(to, &two)
+    print!(to; "{b:02X}")
 }
 
-// A space, and a byte as two digits.
-fn spaced<P: Print>(to: &P, b: u8) -> io::Result<()> {
-    text(to, b" ")?;
-    hex(to, b)
-}
-
-// Bytes, a space before each.
+// HexBytes, a space before each.
 pub fn bytes<P: Print>(to: &P, s: &[u8]) -> io::Result<()> {
-    for b in s {
-        spaced(to, *b)?;
-    }
-    Ok(())
+    to.print(HexBytes(s))
 }
 
 // The 20 low bits of an address, as five digits.
 pub fn address<P: Print>(to: &P, a: u32) -> io::Result<()> {
-    let five = [
-        digit((a / 65536 % 16) as u8),
-        digit((a / 4096 % 16) as u8),
-        digit((a / 256 % 16) as u8),
-        digit((a / 16 % 16) as u8),
-        digit((a % 16) as u8),
-    ];
-    text(to, &five)
+    print!(to; "{:05X}", a % 0x100000)
 }
 
 // A refusal as the desk prints it, in a line.
 pub fn refused_to<P: Print>(to: &P, why: Refusal, item: u32) -> io::Result<()> {
-    text(to, b"refused ")?;
-    number(to, why.number() as u64)?;
-    text(to, b" item ")?;
-    number(to, item as u64)?;
-    text(to, b"\n")
+    to.println(RefusalLine { why, item })
 }
 
 // On a runtime's standard output.

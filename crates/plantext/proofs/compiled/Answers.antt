@@ -1,9 +1,17 @@
--- `plantext::compiled` meets its contract: a compiled list fits the buffer. Assumes nothing.
-use Rattle.std.proofs.Common.{arith, sym}
+-- `plantext::compiled` meets its contract: a compiled list fits the buffer, and has some bytes. Assumes nothing.
+use Rattle.std.proofs.Common.{ap, arith, sym}
 use Rattle.plan.proofs.Compiling.{accepted}
+use Rattle.plantext.specs.Listed.{list_size}
 use Rattle.plantext.proofs.Counting.{prefix_len_of_le}
+use Rattle.plantext.proofs.Listing.{list_some}
 use Rattle.plantext.proofs.compiled.Goals as goal
 
 pub returns-in-Done-clause-prefix_len : goal.returns-in-Done-clause-prefix_len
 returns-in-Done-clause-prefix_len g c =
-    prefix_len_of_le _ _ (omega (arith, (accepted c.args.plan.now c.args.list.now c.in-Done.bytes (sym c.in-Done.ensures.answer)).room, c.compile-r.auto))
+    let taken = accepted c.args.plan.now c.args.list.now c.in-Done.bytes (sym c.in-Done.ensures.answer) in
+    prefix_len_of_le _ _ (omega (arith, taken.room, c.compile.auto))
+
+pub returns-in-Done-clause-bytes : goal.returns-in-Done-clause-bytes
+returns-in-Done-clause-bytes g c =
+    let taken = accepted c.args.plan.now c.args.list.now c.in-Done.bytes (sym c.in-Done.ensures.answer) in
+    (ap list_size c.in-Done.ensures.answer, omega (arith, taken.count, list_some c.args.plan.now taken.items))

@@ -2,8 +2,8 @@
 use Rattle.std.proofs.Common.{◌≡◌, ◌≤◌, ◌-◌, length}
 use Rattle.plantext.proofs.files.read.Given as goal
 
-abbrev pub invariant-loop-bytes : goal.invariant-loop-bytes
-invariant-loop-bytes g l = (length l.plan ≡ length l.initial.plan) × (l.bytes ≤ length l.plan)
+abbrev pub invariant-loop-n : goal.invariant-loop-n
+invariant-loop-n g l = (length l.bytes ≡ length l.initial.bytes) × (l.n ≤ length l.bytes)
 
-abbrev pub decreases-loop-bytes : goal.decreases-loop-bytes
-decreases-loop-bytes g l = length l.plan - l.bytes
+abbrev pub decreases-loop-n : goal.decreases-loop-n
+decreases-loop-n g l = length l.bytes - l.n
