@@ -20,7 +20,7 @@ use vram::{Vram, good_length};
 
 // A frame: the reader of its display list, with the settings of the line; how many lines were given; whether
 // the display list is switched on.
-#[derive(Clone, Copy)]
+#[derive(Clone, Copy, PartialEq, Eq)]
 pub struct Frame {
     pub reader: Reader,
     pub line: u16,

@@ -26,7 +26,7 @@ use vram::{byte_at, number_12, number_19};
 
 // What a record of the display list changes: the settings, where the list is read on, how many lines
 // more have these settings, and whether this was the last record.
-#[derive(Clone, Copy)]
+#[derive(Clone, Copy, PartialEq, Eq)]
 pub struct Reader {
     pub settings: Settings,
     pub position: u32,

@@ -14,7 +14,7 @@ ghost use Rattle.settings.specs.Settings.{
 };
 
 // The overlay: mode 0 off, 1 text, 2 SR, 3 HR, 4 LR; the address and step of its data; the text counter.
-#[derive(Clone, Copy)]
+#[derive(Clone, Copy, PartialEq, Eq)]
 pub struct Overlay {
     pub mode: u8,
     pub address: u32,
@@ -26,7 +26,7 @@ pub struct Overlay {
 }
 
 // The attribute map: its data, the size of its fields, and the field counter.
-#[derive(Clone, Copy)]
+#[derive(Clone, Copy, PartialEq, Eq)]
 pub struct Map {
     pub on: bool,
     pub address: u32,
@@ -39,7 +39,7 @@ pub struct Map {
 }
 
 // What OVATT sets: the display's width, the palettes of overlay and playfield, the priority.
-#[derive(Clone, Copy)]
+#[derive(Clone, Copy, PartialEq, Eq)]
 pub struct Look {
     pub width: u8,
     pub palette: u8,
@@ -48,7 +48,7 @@ pub struct Look {
 }
 
 // The settings of one scanline, and its origin: the address of the record last read for it, or NO_RECORD.
-#[derive(Clone, Copy)]
+#[derive(Clone, Copy, PartialEq, Eq)]
 pub struct Settings {
     pub overlay: Overlay,
     pub map: Map,
