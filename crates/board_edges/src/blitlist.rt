@@ -48,6 +48,15 @@ pub fn first<R: Print>(rt: &R, name: &str, mem: &mut [u8], budget: u32) -> io::R
     ran(rt, name, started(0), mem, budget)
 }
 
+// The list at 0 in runs of so many ticks.
+pub fn in_runs<R: Print>(rt: &R, mem: &mut [u8], pieces: &[(&str, u32)]) -> io::Result<()> {
+    let mut board = started(0);
+    for &(name, budget) in pieces {
+        board = ran(rt, name, board, mem, budget)?;
+    }
+    Ok(())
+}
+
 // A list of one block, run to its end, and the eight cells from an address on.
 pub fn single<R: Print>(
     rt: &R,

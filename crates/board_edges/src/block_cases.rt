@@ -70,8 +70,7 @@ fn two_nibbles(mem: &mut [u8]) {
 // Nibbles collide apart, and the other nibble of the code stays.
 fn nibbles<R: Print>(rt: &R, mem: &mut [u8]) -> io::Result<()> {
     two_nibbles(mem);
-    let first = blitlist::first(rt, "nibbles 55 on 90", mem, 2)?;
-    blitlist::ran(rt, "nibbles 55 on 0A", first, mem, 1)?;
+    blitlist::in_runs(rt, mem, &[("nibbles 55 on 90", 2), ("nibbles 55 on 0A", 1)])?;
     show::cells(rt, mem, 0x1800)
 }
 

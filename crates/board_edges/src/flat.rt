@@ -12,103 +12,60 @@ fn row(s: u8, d: u8) -> Block {
     }
 }
 
-// The bytes at 2000h, then a list of one block, run to its end, and the eight cells from an address on.
-fn run<R: Print>(
-    rt: &R,
-    name: &str,
-    mem: &mut [u8],
-    bytes: &[u8],
-    block: Block,
-    at: u32,
-) -> io::Result<()> {
-    vram::install(mem, bytes, 0x2000);
-    blitlist::single(rt, name, mem, 100, block, at)
-}
+const EIGHT: &[u8] = b"\x01\x02\x03\x04\x05\x06\x07\x08";
 
 // Each byte is read after the one before was written: the first goes on and on.
 fn further<R: Print>(rt: &R, mem: &mut [u8]) -> io::Result<()> {
+    vram::install(mem, EIGHT, 0x2000);
     let mut block = row(0x20, 0x20);
     block.dest.adr0 = 1;
-    run(
-        rt,
-        "8 bytes one further",
-        mem,
-        b"\x01\x02\x03\x04\x05\x06\x07\x08",
-        block,
-        0x2000,
-    )
+    blitlist::single(rt, "8 bytes one further", mem, 100, block, 0x2000)
 }
 
 // Each byte is read before it is written: they move.
 fn back<R: Print>(rt: &R, mem: &mut [u8]) -> io::Result<()> {
+    vram::install(mem, b"\x01\x02\x03\x04\x05\x06\x07\x08\x09", 0x2000);
     let mut block = row(0x20, 0x20);
     block.source.adr0 = 1;
-    run(
-        rt,
-        "8 bytes one back",
-        mem,
-        b"\x01\x02\x03\x04\x05\x06\x07\x08\x09",
-        block,
-        0x2000,
-    )
+    blitlist::single(rt, "8 bytes one back", mem, 100, block, 0x2000)
 }
 
 // One byte, zoomed, that is itself the fourth of those written.
 fn among<R: Print>(rt: &R, mem: &mut [u8]) -> io::Result<()> {
+    vram::install(mem, EIGHT, 0x2000);
     let mut block = blitlist::plain(0x20, 0x20);
     block.source.adr0 = 3;
     block.xormask = 1;
     block.zoom = 7;
-    run(
-        rt,
-        "8 of one byte among them",
-        mem,
-        b"\x01\x02\x03\x04\x05\x06\x07\x08",
-        block,
-        0x2000,
-    )
+    blitlist::single(rt, "8 of one byte among them", mem, 100, block, 0x2000)
 }
 
 // Four bytes at the memory's end, and four at its beginning.
 fn past<R: Print>(rt: &R, mem: &mut [u8]) -> io::Result<()> {
+    vram::install(mem, EIGHT, 0x2000);
     let mut block = row(0x20, 0x3F);
     block.dest.adr0 = 0xFC;
-    run(
-        rt,
-        "8 bytes past the end",
-        mem,
-        b"\x01\x02\x03\x04\x05\x06\x07\x08",
-        block,
-        16380,
-    )
+    blitlist::single(rt, "8 bytes past the end", mem, 100, block, 16380)
 }
 
 // Mode 1 skips every second byte.
 fn skipping<R: Print>(rt: &R, mem: &mut [u8]) -> io::Result<()> {
+    vram::install(mem, b"\x01\x00\x02\x00\x03\x00\x04\x00", 0x2000);
     vram::install(mem, b"\x11\x12\x13\x14\x15\x16\x17\x18", 0x2100);
-    let block = Block {
-        control: 1,
-        ..row(0x20, 0x21)
-    };
-    run(
-        rt,
-        "8 bytes in mode 1",
-        mem,
-        b"\x01\x00\x02\x00\x03\x00\x04\x00",
-        block,
-        0x2100,
-    )
+    let mut block = row(0x20, 0x21);
+    block.control = 1;
+    blitlist::single(rt, "8 bytes in mode 1", mem, 100, block, 0x2100)
 }
 
 // Mode 5 without a source turns each bit.
 fn turned<R: Print>(rt: &R, mem: &mut [u8]) -> io::Result<()> {
-    vram::install(mem, b"\x01\x02\x03\x04\x05\x06\x07\x08", 0x2100);
+    vram::install(mem, EIGHT, 0x2100);
     let block = Block {
         width0: 7,
         control: 5,
         ..blitlist::fill(0x21, 255)
     };
-    run(rt, "8 bytes in mode 5, AND 0", mem, b"", block, 0x2100)
+    blitlist::single(rt, "8 bytes in mode 5, AND 0", mem, 100, block, 0x2100)
 }
 
 pub fn all<R: Print>(rt: &R, mem: &mut [u8]) -> io::Result<()> {

@@ -25,20 +25,12 @@ fn copies<R: Print>(rt: &R, mem: &mut [u8]) -> io::Result<()> {
     blitlist::single(rt, "fill of 4", mem, 0, four, 0x1100)
 }
 
-// The list at 0 in runs of so many ticks.
-fn in_runs<R: Print>(rt: &R, mem: &mut [u8], pieces: &[(&str, u32)]) -> io::Result<()> {
-    let mut board = started(0);
-    for &(name, budget) in pieces {
-        board = blitlist::ran(rt, name, board, mem, budget)?;
-    }
-    Ok(())
-}
-
 // The largest budget and one above it.
 fn budgets<R: Print>(rt: &R, mem: &mut [u8]) -> io::Result<()> {
     blitlist::ran(rt, "idle, 1000000", Board::new(), mem, 1000000)?;
     blitlist::ran(rt, "idle, 1000001", Board::new(), mem, 1000001)?;
-    in_runs(rt, mem, &[("started, 1000001", 1000001)])
+    blitlist::first(rt, "started, 1000001", mem, 1000001)?;
+    Ok(())
 }
 
 // The list at 0 in nine runs of a million ticks.
@@ -138,8 +130,8 @@ fn compared<R: Print>(rt: &R) -> io::Result<()> {
     let mut one = [0u8; 16384];
     long_list(&mut one);
     let mut two = one;
-    in_runs(rt, &mut one, &[("in one", 146)])?;
-    in_runs(
+    blitlist::first(rt, "in one", &mut one, 146)?;
+    blitlist::in_runs(
         rt,
         &mut two,
         &[("1 tick", 1), ("50 ticks", 50), ("the rest", 95)],
@@ -154,9 +146,9 @@ fn compared<R: Print>(rt: &R) -> io::Result<()> {
 // Runs to their end, and what stands in their way. The fill runs again: one tick short of the end, the last tick, and idle.
 fn runs<R: Print>(rt: &R, mem: &mut [u8]) -> io::Result<()> {
     copies(rt, mem)?;
-    in_runs(rt, mem, &[("budget 0", 0)])?;
-    in_runs(rt, mem, &[("budget 5", 5)])?;
-    in_runs(
+    blitlist::first(rt, "budget 0", mem, 0)?;
+    blitlist::first(rt, "budget 5", mem, 5)?;
+    blitlist::in_runs(
         rt,
         mem,
         &[("one tick short", 4), ("the last tick", 1), ("idle", 10)],

@@ -53,7 +53,7 @@ fn repeated() -> Block {
 fn in_one_and_three<R: Print>(rt: &R, mem: &mut [u8]) -> io::Result<()> {
     blitlist::first(rt, "two bytes on one cell", mem, 100)?;
     show::cells(rt, mem, 0x2100)?;
-    crate::in_runs(
+    blitlist::in_runs(
         rt,
         mem,
         &[
