@@ -2,29 +2,24 @@
 // mode that skips, and without a source. The list is at 100, since a row may be at 0.
 use super::blitlist;
 use block::Block;
-use boardtext::show;
 use std::io;
 
 // A row of eight from page s to page d.
 fn row(s: u8, d: u8) -> Block {
-    let mut block = blitlist::plain(s, d);
-    block.width0 = 7;
-    block
+    Block {
+        width0: 7,
+        ..blitlist::plain(s, d)
+    }
 }
 
-// A list of one block, run to its end, and the eight cells from an address on.
-fn run<R: Print>(rt: &R, name: &[u8], mem: &mut [u8], block: Block, at: u32) -> io::Result<()> {
-    blitlist::lay(mem, 100, block);
-    blitlist::ran(rt, name, blitlist::started(100, 0, 0), mem, 100)?;
-    show::cells(rt, mem, at)
-}
+const EIGHT: &[u8] = b"\x01\x02\x03\x04\x05\x06\x07\x08";
 
 // Each byte is read after the one before was written: the first goes on and on.
 fn further<R: Print>(rt: &R, mem: &mut [u8]) -> io::Result<()> {
-    vram::install(mem, b"\x01\x02\x03\x04\x05\x06\x07\x08", 0x2000);
+    vram::install(mem, EIGHT, 0x2000);
     let mut block = row(0x20, 0x20);
     block.dest.adr0 = 1;
-    run(rt, b"8 bytes one further", mem, block, 0x2000)
+    blitlist::single(rt, "8 bytes one further", mem, 100, block, 0x2000)
 }
 
 // Each byte is read before it is written: they move.
@@ -32,25 +27,25 @@ fn back<R: Print>(rt: &R, mem: &mut [u8]) -> io::Result<()> {
     vram::install(mem, b"\x01\x02\x03\x04\x05\x06\x07\x08\x09", 0x2000);
     let mut block = row(0x20, 0x20);
     block.source.adr0 = 1;
-    run(rt, b"8 bytes one back", mem, block, 0x2000)
+    blitlist::single(rt, "8 bytes one back", mem, 100, block, 0x2000)
 }
 
 // One byte, zoomed, that is itself the fourth of those written.
 fn among<R: Print>(rt: &R, mem: &mut [u8]) -> io::Result<()> {
-    vram::install(mem, b"\x01\x02\x03\x04\x05\x06\x07\x08", 0x2000);
+    vram::install(mem, EIGHT, 0x2000);
     let mut block = blitlist::plain(0x20, 0x20);
     block.source.adr0 = 3;
     block.xormask = 1;
     block.zoom = 7;
-    run(rt, b"8 of one byte among them", mem, block, 0x2000)
+    blitlist::single(rt, "8 of one byte among them", mem, 100, block, 0x2000)
 }
 
 // Four bytes at the memory's end, and four at its beginning.
 fn past<R: Print>(rt: &R, mem: &mut [u8]) -> io::Result<()> {
-    vram::install(mem, b"\x01\x02\x03\x04\x05\x06\x07\x08", 0x2000);
+    vram::install(mem, EIGHT, 0x2000);
     let mut block = row(0x20, 0x3F);
     block.dest.adr0 = 0xFC;
-    run(rt, b"8 bytes past the end", mem, block, 16380)
+    blitlist::single(rt, "8 bytes past the end", mem, 100, block, 16380)
 }
 
 // Mode 1 skips every second byte.
@@ -59,16 +54,18 @@ fn skipping<R: Print>(rt: &R, mem: &mut [u8]) -> io::Result<()> {
     vram::install(mem, b"\x11\x12\x13\x14\x15\x16\x17\x18", 0x2100);
     let mut block = row(0x20, 0x21);
     block.control = 1;
-    run(rt, b"8 bytes in mode 1", mem, block, 0x2100)
+    blitlist::single(rt, "8 bytes in mode 1", mem, 100, block, 0x2100)
 }
 
 // Mode 5 without a source turns each bit.
 fn turned<R: Print>(rt: &R, mem: &mut [u8]) -> io::Result<()> {
-    vram::install(mem, b"\x01\x02\x03\x04\x05\x06\x07\x08", 0x2100);
-    let mut block = blitlist::fill(0x21, 255);
-    block.width0 = 7;
-    block.control = 5;
-    run(rt, b"8 bytes in mode 5, AND 0", mem, block, 0x2100)
+    vram::install(mem, EIGHT, 0x2100);
+    let block = Block {
+        width0: 7,
+        control: 5,
+        ..blitlist::fill(0x21, 255)
+    };
+    blitlist::single(rt, "8 bytes in mode 5, AND 0", mem, 100, block, 0x2100)
 }
 
 pub fn all<R: Print>(rt: &R, mem: &mut [u8]) -> io::Result<()> {

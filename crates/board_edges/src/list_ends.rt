@@ -1,47 +1,40 @@
 // When a list ends (document 02, A10). The largest block, in nine runs, is in the program itself.
 use super::blitlist;
-use board::Board;
+use block::Block;
+use boardtext::boards::started;
 use boardtext::show;
 use std::io;
 
 // A fill of 3 by 2 bytes at 2000h, zoomed 2 by 3, and one of one byte at 3000h: 37 ticks and 2.
 fn two_fills(mem: &mut [u8]) {
-    let mut first = blitlist::fill(0x20, 1);
+    let mut first = Block {
+        width0: 2,
+        height: 1,
+        zoom: 0x21,
+        control: 8,
+        ..blitlist::fill(0x20, 1)
+    };
     first.dest.y0 = 16;
-    first.width0 = 2;
-    first.height = 1;
-    first.zoom = 0x21;
-    first.control = 8;
     blitlist::lay(mem, 0, first);
     blitlist::lay(mem, 21, blitlist::fill(0x30, 2));
 }
 
-// Three runs, one tick short of them.
-fn short<R: Print>(rt: &R, mem: &mut [u8]) -> io::Result<Board> {
-    let ten = blitlist::first(rt, b"39 ticks, run of 10", mem, 10)?;
-    let thirty = blitlist::ran(rt, b"39 ticks, run of 20", ten, mem, 20)?;
-    blitlist::ran(rt, b"39 ticks, run of 8", thirty, mem, 8)
-}
-
-// The last tick, and none behind it.
-fn last<R: Print>(rt: &R, mem: &mut [u8], busy: Board) -> io::Result<()> {
-    let idle = blitlist::ran(rt, b"39 ticks, run of 1", busy, mem, 1)?;
-    blitlist::ran(rt, b"39 ticks, run of 5", idle, mem, 5)?;
-    show::cells(rt, mem, 0x2050)?;
-    show::cells(rt, mem, 0x3000)
-}
-
-// Idle after 39 ticks, however they are divided into runs.
+// Idle after 39 ticks, however they are divided into runs: three runs, one tick short of them; the last tick, and none behind it.
 fn in_five_runs<R: Print>(rt: &R, mem: &mut [u8]) -> io::Result<()> {
     two_fills(mem);
-    let busy = short(rt, mem)?;
-    last(rt, mem, busy)
+    let mut board = started(0);
+    for budget in [10, 20, 8, 1, 5] {
+        print!(rt; "39 ticks, run of {budget}")?;
+        board = blitlist::ran(rt, "", board, mem, budget)?;
+    }
+    show::cells(rt, mem, 0x2050)?;
+    show::cells(rt, mem, 0x3000)
 }
 
 // L is 16,384, so the cell of 16,384 is the list's own first byte,
 fn own_byte<R: Print>(rt: &R, mem: &mut [u8]) -> io::Result<()> {
     let over = blitlist::fill(0x40, 0x77);
-    blitlist::single(rt, b"list at 0, destination 16384", mem, over, 0)
+    blitlist::single(rt, "list at 0, destination 16384", mem, 0, over, 0)
 }
 
 // and that of 16,417 is the width of its second block, which then takes 5 ticks and not 2.
@@ -50,17 +43,16 @@ fn own_width<R: Print>(rt: &R, mem: &mut [u8]) -> io::Result<()> {
     over.dest.adr0 = 33;
     over.control = 8;
     blitlist::lay(mem, 21, blitlist::fill(0x30, 2));
-    blitlist::single(rt, b"list at 0, destination 16417", mem, over, 0x3000)
+    blitlist::single(rt, "list at 0, destination 16417", mem, 0, over, 0x3000)
 }
 
 // A list over the top of memory ends like any other.
 fn over_the_top<R: Print>(rt: &R, mem: &mut [u8]) -> io::Result<()> {
-    let mut four = blitlist::fill(0x14, 0x5A);
-    four.width0 = 3;
-    blitlist::lay(mem, 524280, four);
-    let board = blitlist::started(0xF8, 0xFF, 7);
-    blitlist::ran(rt, b"fill of 4, list at 524280", board, mem, 100)?;
-    show::cells(rt, mem, 0x1400)
+    let four = Block {
+        width0: 3,
+        ..blitlist::fill(0x14, 0x5A)
+    };
+    blitlist::single(rt, "fill of 4, list at 524280", mem, 524280, four, 0x1400)
 }
 
 // All of them, in a memory of their own.

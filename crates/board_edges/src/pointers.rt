@@ -1,15 +1,12 @@
 // A pointer drawn in mode 5 and taken away by drawing it again (document 02, A13): where that is allowed, and where it is not.
 use super::blitlist;
 use block::Block;
+use boardtext::boards::{started, written};
 use boardtext::show;
 use std::io;
 
 fn compare<R: Print>(rt: &R, one: &[u8], two: &[u8]) -> io::Result<()> {
-    if crate::same(one, two) {
-        print::text(rt, b"  the same memory\n")
-    } else {
-        print::text(rt, b"  not the same memory\n")
-    }
+    println!(rt; "  {}the same memory", if one == two { "" } else { "not " })
 }
 
 // Cells from 2100h on, and a list of one block at 0.
@@ -19,19 +16,18 @@ fn prepare(mem: &mut [u8], cells: &[u8], block: Block) {
 }
 
 // Drawn to the end twice, on one board.
-fn draw_twice<R: Print>(rt: &R, name: &[u8], mem: &mut [u8], at: u32) -> io::Result<()> {
+fn draw_twice<R: Print>(rt: &R, name: &str, mem: &mut [u8], at: u32) -> io::Result<()> {
     let board = blitlist::first(rt, name, mem, 100)?;
     show::cells(rt, mem, at)?;
-    blitlist::ran(rt, b"again", board.write(0x53, 1).board, mem, 100)?;
+    blitlist::ran(rt, "again", written(board, &[(0x53, 1)]), mem, 100)?;
     show::cells(rt, mem, at)
 }
 
 // The same, and whether memory is as it was.
-fn twice<R: Print>(rt: &R, name: &[u8], cells: &[u8], block: Block, at: u32) -> io::Result<()> {
+fn twice<R: Print>(rt: &R, name: &str, cells: &[u8], block: Block, at: u32) -> io::Result<()> {
     let mut mem = [0u8; 16384];
-    let mut before = [0u8; 16384];
     prepare(&mut mem, cells, block);
-    prepare(&mut before, cells, block);
+    let before = mem;
     draw_twice(rt, name, &mut mem, at)?;
     compare(rt, &mem, &before)
 }
@@ -53,28 +49,27 @@ fn repeated() -> Block {
     block
 }
 
-// The list at 0 in three runs of one tick.
-fn in_three_runs<R: Print>(rt: &R, mem: &mut [u8]) -> io::Result<()> {
-    let load = blitlist::first(rt, b"again, the load", mem, 1)?;
-    let byte = blitlist::ran(rt, b"again, a byte", load, mem, 1)?;
-    blitlist::ran(rt, b"again, the last byte", byte, mem, 1)?;
-    Ok(())
-}
-
 // In one run, and then in three.
 fn in_one_and_three<R: Print>(rt: &R, mem: &mut [u8]) -> io::Result<()> {
-    blitlist::first(rt, b"two bytes on one cell", mem, 100)?;
+    blitlist::first(rt, "two bytes on one cell", mem, 100)?;
     show::cells(rt, mem, 0x2100)?;
-    in_three_runs(rt, mem)?;
+    blitlist::in_runs(
+        rt,
+        mem,
+        &[
+            ("again, the load", 1),
+            ("again, a byte", 1),
+            ("again, the last byte", 1),
+        ],
+    )?;
     show::cells(rt, mem, 0x2100)
 }
 
 // Destinations may repeat, and the runs be divided; the collision code is another.
 fn on_one_cell<R: Print>(rt: &R) -> io::Result<()> {
     let mut mem = [0u8; 16384];
-    let mut before = [0u8; 16384];
     prepare(&mut mem, b"\x09\x03\x05", repeated());
-    prepare(&mut before, b"\x09\x03\x05", repeated());
+    let before = mem;
     in_one_and_three(rt, &mut mem)?;
     compare(rt, &mem, &before)
 }
@@ -83,7 +78,7 @@ fn on_one_cell<R: Print>(rt: &R) -> io::Result<()> {
 fn on_its_source<R: Print>(rt: &R) -> io::Result<()> {
     let mut block = pointer();
     block.source.adr0 = 0;
-    twice(rt, b"mode 5 on its source", b"\x03", block, 0x2100)
+    twice(rt, "mode 5 on its source", b"\x03", block, 0x2100)
 }
 
 // With AND 0 that source is not read.
@@ -94,7 +89,7 @@ fn without_source<R: Print>(rt: &R) -> io::Result<()> {
     block.control = 5;
     twice(
         rt,
-        b"mode 5 on its source, AND 0",
+        "mode 5 on its source, AND 0",
         b"\x03\x01",
         block,
         0x2100,
@@ -106,14 +101,16 @@ fn on_its_block<R: Print>(rt: &R) -> io::Result<()> {
     let mut block = blitlist::fill(0x40, 77);
     block.dest.adr0 = 16;
     block.control = 5;
-    twice(rt, b"mode 5 on its XOR mask", b"", block, 16)
+    twice(rt, "mode 5 on its XOR mask", b"", block, 16)
 }
 
 // Mode 4 does not undo itself.
 fn in_mode_4<R: Print>(rt: &R) -> io::Result<()> {
-    let mut block = pointer();
-    block.control = 4;
-    twice(rt, b"mode 4 drawn twice", b"\x09\x03", block, 0x2100)
+    let block = Block {
+        control: 4,
+        ..pointer()
+    };
+    twice(rt, "mode 4 drawn twice", b"\x09\x03", block, 0x2100)
 }
 
 // Three bytes from 2104h to 2100h: the list at 0.
@@ -133,27 +130,22 @@ fn second(low: u8) -> Block {
     block
 }
 
-fn prepare_both(mem: &mut [u8], low: u8) {
-    prepare(mem, b"\x10\x10\x10\x10\x01\x02\x04", first());
-    blitlist::lay(mem, 256, second(low));
-}
-
-// One of the two lists, by the middle byte of its address.
-fn draw<R: Print>(rt: &R, name: &[u8], part: &[u8], mem: &mut [u8], middle: u8) -> io::Result<()> {
-    print::text(rt, name)?;
-    blitlist::ran(rt, part, blitlist::started(0, middle, 0), mem, 100)?;
+// One of the two lists.
+fn draw<R: Print>(rt: &R, name: &str, part: &str, mem: &mut [u8], list: u32) -> io::Result<()> {
+    print!(rt; "{name}, ")?;
+    blitlist::ran(rt, part, started(list), mem, 100)?;
     show::cells(rt, mem, 0x2100)
 }
 
-fn in_both_orders<R: Print>(rt: &R, name: &[u8], low: u8) -> io::Result<()> {
+fn in_both_orders<R: Print>(rt: &R, name: &str, low: u8) -> io::Result<()> {
     let mut one = [0u8; 16384];
-    let mut two = [0u8; 16384];
-    prepare_both(&mut one, low);
-    prepare_both(&mut two, low);
-    draw(rt, name, b", first", &mut one, 0)?;
-    draw(rt, name, b", then second", &mut one, 1)?;
-    draw(rt, name, b", second", &mut two, 1)?;
-    draw(rt, name, b", then first", &mut two, 0)?;
+    prepare(&mut one, b"\x10\x10\x10\x10\x01\x02\x04", first());
+    blitlist::lay(&mut one, 256, second(low));
+    let mut two = one;
+    draw(rt, name, "first", &mut one, 0)?;
+    draw(rt, name, "then second", &mut one, 256)?;
+    draw(rt, name, "second", &mut two, 256)?;
+    draw(rt, name, "then first", &mut two, 0)?;
     compare(rt, &one, &two)
 }
 
@@ -163,6 +155,6 @@ pub fn all<R: Print>(rt: &R) -> io::Result<()> {
     without_source(rt)?;
     on_its_block(rt)?;
     in_mode_4(rt)?;
-    in_both_orders(rt, b"two that overlap", 1)?;
-    in_both_orders(rt, b"one on the other's source", 4)
+    in_both_orders(rt, "two that overlap", 1)?;
+    in_both_orders(rt, "one on the other's source", 4)
 }

@@ -1,31 +1,17 @@
 // The lines of a frame as text, for the programs that show them: those that are all alike as one, or as many as show each band.
-use super::{frames, same};
+use super::Shown;
+use super::boards::pointed;
+use super::frames::Lines;
 use board::Board;
 use frame::{Frame, FrameStart, LineReport};
 use record::Reader;
+use refusal::Refusal;
 use settings::Settings;
 use std::io;
 
-// What is printed so far: up to the frame's line, but for the lines since `from`, which are all alike. `list` is where the plan's
-// first record is, or NO_RECORD where the list is no plan's.
-#[derive(Clone, Copy)]
-struct Run {
-    frame: Frame,
-    from: u16,
-    list: u32,
-}
-
-// What is printed so far, and the line before; `list` as above.
-#[derive(Clone, Copy)]
-struct Sample {
-    frame: Frame,
-    before: Settings,
-    list: u32,
-}
-
 // The number of the item whose record is at an address: each item of a plan has one record, in the same order. It has 240 items
-// at most; 240 where none has that record.
-fn item_of(mem: &[u8], list: u32, origin: u32) -> u16 {
+// at most.
+fn item_of(mem: &[u8], list: u32, origin: u32) -> Option<u16> {
     let mut reader = Reader {
         settings: Settings::new(),
         position: list,
@@ -34,189 +20,159 @@ fn item_of(mem: &[u8], list: u32, origin: u32) -> u16 {
     };
     for i in 0..Frame::LINES {
         if reader.position == origin {
-            return i;
+            return Some(i);
         }
         reader = reader.read(mem);
     }
-    Frame::LINES
+    None
 }
 
-// A line or lines that are all alike, with the item that made them.
-fn tell<R: Print>(
-    rt: &R,
-    mem: &[u8],
-    list: u32,
-    from: u16,
-    to: u16,
-    s: Settings,
-) -> io::Result<()> {
-    frames::lines(rt, from, to, s)?;
-    if list < Settings::NO_RECORD {
-        print::text(rt, b"; item ")?;
-        print::number(rt, item_of(mem, list, s.origin) as u64)?;
+// A line or lines that are all alike, with the item that made them where they are of the plan's list at an address.
+fn tell<R: Print>(rt: &R, mem: &[u8], list: Option<u32>, lines: Lines) -> io::Result<()> {
+    print!(rt; "{lines}")?;
+    if let Some(item) = list.and_then(|at| item_of(mem, at, lines.settings.origin)) {
+        print!(rt; "; item {item}")?;
     }
-    print::text(rt, b"\n")
+    println!(rt)
 }
 
-// Whether the frame's next line is like this one.
-fn next_alike(frame: Frame, mem: &[u8], s: Settings, moving: bool) -> bool {
-    let next = frame.next_line(mem);
-    let report = next.report;
-    match report {
+// A line that is refused.
+fn refused<R: Print>(rt: &R, line: u16, why: Refusal) -> io::Result<()> {
+    print!(rt; "line {line}: ")?;
+    print::refused(rt, why, 0)
+}
+
+// The settings without what moves from line to line.
+fn still(mut s: Settings) -> Settings {
+    s.overlay.address = 0;
+    s.overlay.counter = 0;
+    s.map.address = 0;
+    s.map.counter = 0;
+    s
+}
+
+// Whether the frame has a next line, and it is like this.
+fn next_is<F: FnOnce(Settings) -> bool>(frame: Frame, mem: &[u8], like: F) -> bool
+    requires { F.IsAlwaysCallable like }
+{
+    match frame.next_line(mem).report {
         LineReport::Refused(_) => false,
-        LineReport::Line(t) => same::alike(s, t, moving),
+        LineReport::Line(s) => like(s),
     }
 }
 
-// One line more; it is printed where the run ends.
-fn run_line<R: Print>(rt: &R, run: Run, mem: &[u8], last: bool) -> io::Result<Run> {
-    let frame = run.frame;
-    let from = run.from;
-    let list = run.list;
-    let next = frame.next_line(mem);
-    let after = next.frame;
-    let report = next.report;
-    match report {
-        LineReport::Refused(why) => {
-            frames::refused(rt, frame.line, why)?;
-            Ok(run)
-        }
-        LineReport::Line(s) => {
-            if !last & next_alike(after, mem, s, false) {
-                return Ok(Run {
-                    frame: after,
-                    from,
-                    list,
-                });
-            }
-            tell(rt, mem, list, from, frame.line, s)?;
-            Ok(Run {
-                frame: after,
-                from: after.line,
-                list,
-            })
-        }
-    }
-}
-
-// The next lines of a frame, those that are all alike as one, and the frame behind them.
-fn joined<R: Print>(rt: &R, frame: Frame, mem: &[u8], list: u32, count: u16) -> io::Result<Frame> {
-    let mut run = Run {
-        frame,
-        from: frame.line,
-        list,
-    };
+// The next lines of a frame, those that are all alike as one, and the frame behind them. Lines of different records are not alike.
+fn joined<R: Print>(
+    rt: &R,
+    mut frame: Frame,
+    mem: &[u8],
+    list: Option<u32>,
+    count: u16,
+) -> io::Result<Frame> {
+    let mut from = frame.line;
     for i in 0..count {
-        run = run_line(rt, run, mem, i + 1 == count)?;
+        let to = frame.line;
+        let next = frame.next_line(mem);
+        frame = next.frame;
+        match next.report {
+            LineReport::Refused(why) => refused(rt, to, why)?,
+            LineReport::Line(settings) => {
+                if i + 1 == count || !next_is(frame, mem, |s| s == settings) {
+                    tell(rt, mem, list, Lines { from, to, settings })?;
+                    from = frame.line;
+                }
+            }
+        }
     }
-    Ok(run.frame)
+    Ok(frame)
 }
 
 // The same, and the frame printed.
 pub fn runs<R: Print>(rt: &R, frame: Frame, mem: &[u8], count: u16) -> io::Result<()> {
-    frames::state(rt, joined(rt, frame, mem, Settings::NO_RECORD, count)?)
+    println!(rt; "{}", Shown(joined(rt, frame, mem, None, count)?))
 }
 
-// One line more; it is printed where a band begins or ends, and each ninth line, so that every counter is met.
-fn sample_line<R: Print>(rt: &R, sample: Sample, mem: &[u8]) -> io::Result<Sample> {
-    let frame = sample.frame;
-    let list = sample.list;
-    let next = frame.next_line(mem);
-    let after = next.frame;
-    let report = next.report;
-    match report {
-        LineReport::Refused(why) => {
-            frames::refused(rt, frame.line, why)?;
-            Ok(sample)
-        }
-        LineReport::Line(s) => {
-            let first = !same::alike(sample.before, s, true);
-            let last = !next_alike(after, mem, s, true);
-            if first | last | (frame.line % 9 == 0) {
-                tell(rt, mem, list, frame.line, frame.line, s)?;
+// The 240 lines of a frame: those where a band begins or ends, and each ninth line, so that every counter is met.
+fn samples<R: Print>(rt: &R, mut frame: Frame, mem: &[u8], list: Option<u32>) -> io::Result<()> {
+    let mut before = Settings::new();
+    for _ in 0..Frame::LINES {
+        let line = frame.line;
+        let next = frame.next_line(mem);
+        frame = next.frame;
+        match next.report {
+            LineReport::Refused(why) => refused(rt, line, why)?,
+            LineReport::Line(settings) => {
+                let first = still(before) != still(settings);
+                let last = !next_is(frame, mem, |s| still(s) == still(settings));
+                if first || last || line % 9 == 0 {
+                    tell(rt, mem, list, Lines::one(line, settings))?;
+                }
+                before = settings;
             }
-            Ok(Sample {
-                frame: after,
-                before: s,
-                list,
-            })
         }
-    }
-}
-
-// The 240 lines of a frame, as many as show each band.
-fn samples<R: Print>(rt: &R, frame: Frame, mem: &[u8], list: u32) -> io::Result<()> {
-    let mut sample = Sample {
-        frame,
-        before: Settings::new(),
-        list,
-    };
-    for i in 0..Frame::LINES {
-        sample = sample_line(rt, sample, mem)?;
     }
     Ok(())
-}
-
-// Whether a refusal hands the frame back as it was.
-fn handed_back<R: Print>(rt: &R, frame: Frame, after: Frame) -> io::Result<()> {
-    if same::frame(frame, after) {
-        return print::text(rt, b"the frame as it was, ");
-    }
-    print::text(rt, b"another frame, ")
 }
 
 // A frame's next line, and the frame that comes back.
 pub fn ask<R: Print>(rt: &R, frame: Frame, mem: &[u8]) -> io::Result<()> {
     let next = frame.next_line(mem);
     let after = next.frame;
-    let report = next.report;
-    match report {
+    match next.report {
         LineReport::Refused(why) => {
-            handed_back(rt, frame, after)?;
+            let back = if after == frame {
+                "the frame as it was"
+            } else {
+                "another frame"
+            };
+            print!(rt; "{back}, ")?;
             print::refused(rt, why, 0)
         }
-        LineReport::Line(s) => {
-            tell(rt, mem, Settings::NO_RECORD, frame.line, frame.line, s)?;
-            frames::holds(rt, after)
+        LineReport::Line(settings) => {
+            tell(rt, mem, None, Lines::one(frame.line, settings))?;
+            println!(rt; "{}\nholds: {}", Shown(after), Shown(after.reader.settings))
         }
     }
 }
 
-// A new board with its XDL_ADR and VIDEO_CONTROL written.
-fn pointed(address: u32, video: u8) -> Board {
-    let board = Board::new();
-    let low = board.write(0x41, (address % 256) as u8).board;
-    let middle = low.write(0x42, (address / 256 % 256) as u8).board;
-    let high = middle.write(0x43, (address / 65536 % 256) as u8).board;
-    high.write(0x40, video).board
+// What is shown of a board's frame, or why it does not start.
+pub fn begun<R: Print, F: FnOnce(Frame) -> io::Result<()>>(
+    rt: &R,
+    board: Board,
+    shown: F,
+) -> io::Result<()>
+    requires { F.IsAlwaysCallable shown }
+{
+    match Frame::start(board) {
+        FrameStart::Refused(why) => print::refused(rt, why, 0),
+        FrameStart::Started(frame) => shown(frame),
+    }
 }
 
 // The first lines of a frame of the list at the address.
 pub fn show<R: Print>(rt: &R, mem: &[u8], address: u32, video: u8, count: u16) -> io::Result<()> {
-    let start = Frame::start(pointed(address, video));
-    match start {
-        FrameStart::Refused(why) => print::refused(rt, why, 0),
-        FrameStart::Started(frame) => runs(rt, frame, mem, count),
-    }
+    begun(
+        rt,
+        pointed(address, video),
+        |frame| runs(rt, frame, mem, count),
+    )
 }
 
 // A whole frame of the plan's list at the address, switched on: as many lines as show each band.
 pub fn show_bands<R: Print>(rt: &R, mem: &[u8], address: u32) -> io::Result<()> {
-    let start = Frame::start(pointed(address, 1));
-    match start {
-        FrameStart::Refused(why) => print::refused(rt, why, 0),
-        FrameStart::Started(frame) => samples(rt, frame, mem, address),
-    }
+    begun(
+        rt,
+        pointed(address, 1),
+        |frame| samples(rt, frame, mem, Some(address)),
+    )
 }
 
 // The frame after some lines.
-fn lines_on(frame: Frame, mem: &[u8], count: u16) -> Frame {
-    let mut f = frame;
-    for i in 0..count {
-        let next = f.next_line(mem);
-        f = next.frame;
+fn lines_on(mut frame: Frame, mem: &[u8], count: u16) -> Frame {
+    for _ in 0..count {
+        frame = frame.next_line(mem).frame;
     }
-    f
+    frame
 }
 
 // So many lines of the plan's frame from one on, those that are all alike as one.
@@ -227,12 +183,8 @@ pub fn show_joined<R: Print>(
     from: u16,
     count: u16,
 ) -> io::Result<()> {
-    let start = Frame::start(pointed(address, 1));
-    match start {
-        FrameStart::Refused(why) => print::refused(rt, why, 0),
-        FrameStart::Started(frame) => {
-            joined(rt, lines_on(frame, mem, from), mem, address, count)?;
-            Ok(())
-        }
-    }
+    begun(rt, pointed(address, 1), |frame| {
+        joined(rt, lines_on(frame, mem, from), mem, Some(address), count)?;
+        Ok(())
+    })
 }

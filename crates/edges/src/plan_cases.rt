@@ -4,13 +4,16 @@ use boardtext::lines;
 use plan::Compiled;
 use std::io;
 
+// F(), whose list has 22 bytes.
+const BAND: &[u8; 27] = b"\x17\0\x01\0\x01\0\0\0\0\0\0\0\0\0\0\0\0\0\0\0\0\0\x08\x08\x01\x01\xFF";
+
 // A plan whose list has 30 bytes, and the lines of its frame.
-fn shown<R: Print>(rt: &R, title: &[u8], plan: &[u8]) -> io::Result<()> {
+fn shown<R: Print>(rt: &R, title: &str, plan: &[u8]) -> io::Result<()> {
     let mut mem = [0u8; 16384];
     let mut list = [0u8; 30];
     plan::compile(plan, &mut list);
     vram::install(&mut mem, &list, 0);
-    print::text(rt, title)?;
+    println!(rt; "{title}")?;
     lines::show(rt, &mem, 0, 1, 240)
 }
 
@@ -19,12 +22,12 @@ fn shown<R: Print>(rt: &R, title: &[u8], plan: &[u8]) -> io::Result<()> {
 fn rows<R: Print>(rt: &R) -> io::Result<()> {
     shown(
         rt,
-        b"text steps every eight lines, and runs on\n",
+        "text steps every eight lines, and runs on",
         b"\x17\0\x01\0\x03\x01\0\0\0\xA0\0\0\0\0\0\0\0\0\0\0\0\0\x08\x08\x01\x01\xFF\x07\0\x02\0\x06\0\0\0\x01\x01\xFF",
     )?;
     shown(
         rt,
-        b"a vscroll that runs on moves no counter\n",
+        "a vscroll that runs on moves no counter",
         b"\x17\0\x01\0\x03\x01\0\0\0\xA0\0\0\0\0\0\0\0\0\0\0\0\0\x08\x08\x01\x01\xFF\x07\0\x02\0\x06\0\x05\0\x01\x01\xFF",
     )
 }
@@ -33,64 +36,43 @@ fn rows<R: Print>(rt: &R) -> io::Result<()> {
 fn below<R: Print>(rt: &R) -> io::Result<()> {
     shown(
         rt,
-        b"below the plan\n",
+        "below the plan",
         b"\x17\0\x01\0\x03\x02\0\x10\0\x40\x01\0\0\0\0\0\0\0\0\0\0\0\x08\x08\x01\x01\xFF\x07\0\x02\0\x02\x05\0\0\x01\x06\xFF",
     )
 }
 
 // A plan into a lent buffer: what is told.
-fn told<R: Print>(rt: &R, title: &[u8], plan: &[u8], out: &mut [u8]) -> io::Result<()> {
-    let answer = plan::compile(plan, out);
-    print::text(rt, title)?;
-    print::text(rt, b" into ")?;
-    print::number(rt, out.len() as u64)?;
-    print::text(rt, b": ")?;
-    match answer {
-        Compiled::Done(bytes) => {
-            print::number(rt, bytes as u64)?;
-            print::text(rt, b" bytes\n")
-        }
+fn told<R: Print>(rt: &R, title: &str, plan: &[u8], out: &mut [u8]) -> io::Result<()> {
+    print!(rt; "{title} into {}: ", out.len())?;
+    match plan::compile(plan, out) {
+        Compiled::Done(bytes) => println!(rt; "{bytes} bytes"),
         Compiled::Refused(why, item) => print::refused(rt, why, item),
     }
 }
 
 // Bytes of a buffer, in a line.
 fn held<R: Print>(rt: &R, out: &[u8]) -> io::Result<()> {
-    print::text(rt, b" ")?;
+    print!(rt; " ")?;
     print::bytes(rt, out)?;
-    print::text(rt, b"\n")
+    println!(rt)
 }
 
 // What is told, and all that the buffer holds.
-fn compiled<R: Print>(rt: &R, title: &[u8], plan: &[u8], out: &mut [u8]) -> io::Result<()> {
+fn compiled<R: Print>(rt: &R, title: &str, plan: &[u8], out: &mut [u8]) -> io::Result<()> {
     told(rt, title, plan, out)?;
     held(rt, out)
 }
 
-// A plan of one item, whose list has 22 bytes.
-fn one<R: Print>(rt: &R, out: &mut [u8]) -> io::Result<()> {
-    compiled(
-        rt,
-        b"F()",
-        b"\x17\0\x01\0\x01\0\0\0\0\0\0\0\0\0\0\0\0\0\0\0\0\0\x08\x08\x01\x01\xFF",
-        out,
-    )
-}
-
 // Buffers of EE around 22 bytes. With a stray byte behind the plan, an item's refusal comes before the room's.
 fn rooms_of_one<R: Print>(rt: &R) -> io::Result<()> {
-    let mut short = [0xEEu8; 21];
-    one(rt, &mut short)?;
-    let mut exact = [0xEEu8; 22];
-    one(rt, &mut exact)?;
-    let mut long = [0xEEu8; 25];
-    one(rt, &mut long)?;
-    let mut stray = [0xEEu8; 21];
+    compiled(rt, "F()", BAND, &mut [0xEE; 21])?;
+    compiled(rt, "F()", BAND, &mut [0xEE; 22])?;
+    compiled(rt, "F()", BAND, &mut [0xEE; 25])?;
     compiled(
         rt,
-        b"F()+00",
+        "F()+00",
         b"\x17\0\x01\0\x01\0\0\0\0\0\0\0\0\0\0\0\0\0\0\0\0\0\x08\x08\x01\x01\xFF\0",
-        &mut stray,
+        &mut [0xEE; 21],
     )
 }
 
@@ -98,7 +80,7 @@ fn rooms_of_one<R: Print>(rt: &R) -> io::Result<()> {
 fn two<R: Print>(rt: &R, out: &mut [u8]) -> io::Result<()> {
     compiled(
         rt,
-        b"F()+R()",
+        "F()+R()",
         b"\x17\0\x01\0\x01\0\0\0\0\0\0\0\0\0\0\0\0\0\0\0\0\0\x08\x08\x01\x01\xFF\x07\0\x02\0\x01\0\0\0\x01\x01\xFF",
         out,
     )
@@ -106,31 +88,26 @@ fn two<R: Print>(rt: &R, out: &mut [u8]) -> io::Result<()> {
 
 // Buffers of EE around 30 bytes; a fault in the last item, with room for the first; and a stray byte.
 fn rooms_of_two<R: Print>(rt: &R) -> io::Result<()> {
-    let mut short = [0xEEu8; 29];
-    two(rt, &mut short)?;
-    let mut exact = [0xEEu8; 30];
-    two(rt, &mut exact)?;
-    let mut first = [0xEEu8; 22];
+    two(rt, &mut [0xEE; 29])?;
+    two(rt, &mut [0xEE; 30])?;
     compiled(
         rt,
-        b"F()+R(hs 8)",
+        "F()+R(hs 8)",
         b"\x17\0\x01\0\x01\0\0\0\0\0\0\0\0\0\0\0\0\0\0\0\0\0\x08\x08\x01\x01\xFF\x07\0\x02\0\x01\x08\0\0\x01\x01\xFF",
-        &mut first,
+        &mut [0xEE; 22],
     )?;
-    let mut stray = [0xEEu8; 29];
     compiled(
         rt,
-        b"F()+R()+00",
+        "F()+R()+00",
         b"\x17\0\x01\0\x01\0\0\0\0\0\0\0\0\0\0\0\0\0\0\0\0\0\x08\x08\x01\x01\xFF\x07\0\x02\0\x01\0\0\0\x01\x01\xFF\0",
-        &mut stray,
+        &mut [0xEE; 29],
     )
 }
 
 // F() over and over, from end to end.
 fn fill(plan: &mut [u8]) {
-    let band = b"\x17\0\x01\0\x01\0\0\0\0\0\0\0\0\0\0\0\0\0\0\0\0\0\x08\x08\x01\x01\xFF";
-    for i in 0..plan.len() {
-        plan[i] = band[i % 27];
+    for (i, byte) in plan.iter_mut().enumerate() {
+        *byte = BAND[i % 27];
     }
 }
 
@@ -139,10 +116,10 @@ fn longest<R: Print>(rt: &R) -> io::Result<()> {
     let mut plan = [0u8; 6480];
     fill(&mut plan);
     let mut short = [0xEEu8; 5279];
-    told(rt, b"240 F()", &plan, &mut short)?;
+    told(rt, "240 F()", &plan, &mut short)?;
     held(rt, &short[5257..])?;
     let mut exact = [0xEEu8; 5280];
-    told(rt, b"240 F()", &plan, &mut exact)?;
+    told(rt, "240 F()", &plan, &mut exact)?;
     held(rt, &exact[5258..])
 }
 
@@ -151,9 +128,9 @@ fn too_many<R: Print>(rt: &R) -> io::Result<()> {
     let mut plan = [0u8; 6507];
     fill(&mut plan);
     let mut room = [0xEEu8; 5280];
-    told(rt, b"241 F()", &plan, &mut room)?;
+    told(rt, "241 F()", &plan, &mut room)?;
     held(rt, &room[5258..])?;
-    told(rt, b"241 F()", &plan, &mut [])
+    told(rt, "241 F()", &plan, &mut [])
 }
 
 // All of them, each in memory of its own.

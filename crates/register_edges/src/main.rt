@@ -1,238 +1,215 @@
 // The registers at their edges, reset, and boards that are unsound: each line says what was done, what was told and how the board stands.
 #![tactic(auto)]
 
-use block::Block;
 use board::{Board, ReadReport};
-use boardtext::show;
+use boardtext::{Shown, blocks};
 use std::io;
-use step::Side;
 
 // What a read gives.
 fn reads<R: Print>(rt: &R, board: Board, offset: u32) -> io::Result<()> {
-    let report = board.read(offset);
-    match report {
-        ReadReport::Byte(v) => {
-            print::text(rt, b" ")?;
-            print::hex(rt, v)
-        }
-        ReadReport::Refused(why) => show::field(rt, b" refused ", why.number() as u64),
+    match board.read(offset) {
+        ReadReport::Byte(v) => print!(rt; " {v:02X}"),
+        ReadReport::Refused(why) => print!(rt; " refused {}", why.number()),
     }
 }
 
-// Eight registers.
-fn eight<R: Print>(rt: &R, board: Board, base: u8) -> io::Result<()> {
-    let offset = base as u32;
-    show::field(rt, b"  ", offset as u64)?;
-    print::text(rt, b":")?;
-    reads(rt, board, offset)?;
-    reads(rt, board, offset + 1)?;
-    reads(rt, board, offset + 2)?;
-    reads(rt, board, offset + 3)?;
-    reads(rt, board, offset + 4)?;
-    reads(rt, board, offset + 5)?;
-    reads(rt, board, offset + 6)?;
-    reads(rt, board, offset + 7)?;
-    print::text(rt, b"\n")
-}
-
-// All thirty-two.
-fn all<R: Print>(rt: &R, name: &[u8], board: Board) -> io::Result<()> {
-    print::text(rt, name)?;
-    show::state(rt, board)?;
-    eight(rt, board, 0x40)?;
-    eight(rt, board, 0x48)?;
-    eight(rt, board, 0x50)?;
-    eight(rt, board, 0x58)
+// All thirty-two registers, eight in a line.
+fn all<R: Print>(rt: &R, name: &str, board: Board) -> io::Result<()> {
+    println!(rt; "{name}{}", Shown(board.blitter))?;
+    for offset in 0x40..0x60 {
+        if offset % 8 == 0 {
+            print!(rt; "  {offset}:")?;
+        }
+        reads(rt, board, offset)?;
+        if offset % 8 == 7 {
+            println!(rt)?;
+        }
+    }
+    Ok(())
 }
 
 // A write and what it tells.
 fn writes<R: Print>(rt: &R, board: Board, offset: u32, value: u8) -> io::Result<Board> {
-    show::field(rt, b" ", offset as u64)?;
     let changed = board.write(offset, value);
-    let report = changed.report;
-    show::outcome(rt, report)?;
+    print!(rt; " {offset}{}", Shown(changed.report))?;
     Ok(changed.board)
 }
 
 // Three registers one after the other, and the ports after them.
 fn three<R: Print>(
     rt: &R,
-    name: &[u8],
-    board: Board,
+    name: &str,
+    mut board: Board,
     base: u8,
-    low: u8,
-    middle: u8,
-    high: u8,
+    bytes: [u8; 3],
 ) -> io::Result<Board> {
-    let offset = base as u32;
-    print::text(rt, name)?;
-    let first = writes(rt, board, offset, low)?;
-    let second = writes(rt, first, offset + 1, middle)?;
-    let third = writes(rt, second, offset + 2, high)?;
-    show::ports(rt, third)?;
-    Ok(third)
+    print!(rt; "{name}")?;
+    for (offset, value) in (u32::from(base)..).zip(bytes) {
+        board = writes(rt, board, offset, value)?;
+    }
+    println!(rt; "{}", Shown(board.ports))?;
+    Ok(board)
 }
 
 // Every port, with bits that are not used.
 fn widths<R: Print>(rt: &R) -> io::Result<Board> {
-    let xdl = three(rt, b"XDL_ADR", Board::new(), 0x41, 0x34, 0x12, 0xFF)?;
-    let bl = three(rt, b"BL_ADR", xdl, 0x50, 0x78, 0x56, 0xFF)?;
-    let p = three(rt, b"P0..P2", bl, 0x55, 0x12, 0x22, 0xFF)?;
-    let last = three(rt, b"P3", p, 0x58, 0x44, 1, 2)?;
-    let video = three(rt, b"VIDEO_CONTROL", last, 0x40, 0xFF, 0x35, 0x13)?;
-    three(rt, b"middle byte", video, 0x51, 0, 0xF9, 0)
+    let mut board = Board::new();
+    for (name, base, bytes) in [
+        ("XDL_ADR", 0x41, [0x34, 0x12, 0xFF]),
+        ("BL_ADR", 0x50, [0x78, 0x56, 0xFF]),
+        ("P0..P2", 0x55, [0x12, 0x22, 0xFF]),
+        ("P3", 0x58, [0x44, 1, 2]),
+        ("VIDEO_CONTROL", 0x40, [0xFF, 0x35, 0x13]),
+        ("middle byte", 0x51, [0, 0xF9, 0]),
+    ] {
+        board = three(rt, name, board, base, bytes)?;
+    }
+    Ok(board)
 }
 
 // Offsets where a write does nothing, and the two that are no registers.
-fn nothing<R: Print>(rt: &R, board: Board) -> io::Result<()> {
-    let a = three(rt, b"nothing from 44h:", board, 0x44, 255, 255, 255)?;
-    let b = three(rt, b"nothing from 47h:", a, 0x47, 255, 255, 255)?;
-    let c = three(rt, b"nothing from 4Ah:", b, 0x4A, 255, 255, 255)?;
-    let d = three(rt, b"nothing from 4Dh:", c, 0x4D, 255, 255, 255)?;
-    let e = three(rt, b"nothing from 59h:", d, 0x59, 255, 255, 255)?;
-    let f = three(rt, b"nothing from 5Ch:", e, 0x5C, 255, 255, 255)?;
-    three(rt, b"the end", f, 0x5F, 255, 255, 255)?;
-    three(rt, b"the beginning", f, 0x3D, 255, 255, 255)?;
+fn nothing<R: Print>(rt: &R, mut board: Board) -> io::Result<()> {
+    for (name, base) in [
+        ("nothing from 44h:", 0x44),
+        ("nothing from 47h:", 0x47),
+        ("nothing from 4Ah:", 0x4A),
+        ("nothing from 4Dh:", 0x4D),
+        ("nothing from 59h:", 0x59),
+        ("nothing from 5Ch:", 0x5C),
+        ("the end", 0x5F),
+        ("the beginning", 0x3D),
+    ] {
+        board = three(rt, name, board, base, [255; 3])?;
+    }
     Ok(())
 }
 
-fn side<R: Print>(rt: &R, side: Side) -> io::Result<()> {
-    print::hex(rt, side.adr0)?;
-    print::hex(rt, side.adr1)?;
-    print::hex(rt, side.adr2)?;
-    print::hex(rt, side.y0)?;
-    print::hex(rt, side.y1)?;
-    print::hex(rt, side.x)?;
-    print::text(rt, b" ")
-}
-
-// The 21 bytes of a block: its sides, its size, its masks, and the rest.
-fn bytes<R: Print>(rt: &R, block: Block) -> io::Result<()> {
-    print::text(rt, b"  block ")?;
-    side(rt, block.source)?;
-    side(rt, block.dest)?;
-    print::hex(rt, block.width0)?;
-    print::hex(rt, block.width1)?;
-    print::hex(rt, block.height)?;
-    print::text(rt, b" ")?;
-    print::hex(rt, block.andmask)?;
-    print::hex(rt, block.xormask)?;
-    print::hex(rt, block.hitmask)?;
-    print::text(rt, b" ")?;
-    print::hex(rt, block.zoom)?;
-    print::hex(rt, block.pattern)?;
-    print::hex(rt, block.control)?;
-    print::text(rt, b"\n")
+// The 21 bytes of a block, a space before each side, the size, the masks, and the rest.
+fn block<R: Print>(rt: &R, board: Board) -> io::Result<()> {
+    print!(rt; "  block")?;
+    for (i, byte) in blocks::bytes(board.blitter.block).iter().enumerate() {
+        let space = if [0, 6, 12, 15, 18].contains(&i) {
+            " "
+        } else {
+            ""
+        };
+        print!(rt; "{space}{byte:02X}")?;
+    }
+    println!(rt)
 }
 
 // Offsets outside: what reads tell, and what a write tells and hands back.
 fn outside<R: Print>(rt: &R, board: Board) -> io::Result<()> {
-    print::text(rt, b"reads outside:")?;
-    reads(rt, board, 0x3F)?;
-    reads(rt, board, 0x60)?;
-    reads(rt, board, 0x153)?;
-    print::text(rt, b"\nwrite outside while busy:")?;
+    print!(rt; "reads outside:")?;
+    for offset in [0x3F, 0x60, 0x153] {
+        reads(rt, board, offset)?;
+    }
+    print!(rt; "\nwrite outside while busy:")?;
     let after = writes(rt, board, 0x60, 1)?;
-    show::state(rt, after)?;
-    print::text(rt, b"  ports")?;
-    show::ports(rt, after)?;
-    let blitter = after.blitter;
-    bytes(rt, blitter.block)
+    println!(rt; "{}\n  ports{}", Shown(after.blitter), Shown(after.ports))?;
+    block(rt, after)
 }
 
 // A board in the middle of a block.
-fn busy(board: Board) -> Board {
-    let mut b = board;
-    b.blitter.flags = 2;
-    b.blitter.list = 85;
-    b.blitter.note.code = 5;
-    b.blitter.block.width0 = 3;
-    b.blitter.block.control = 8;
-    b.blitter.col = 2;
-    b.blitter.irqe = true;
-    b.blitter.irqf = true;
-    b
+fn busy(mut board: Board) -> Board {
+    board.blitter.flags = 2;
+    board.blitter.list = 85;
+    board.blitter.note.code = 5;
+    board.blitter.block.width0 = 3;
+    board.blitter.block.control = 8;
+    board.blitter.col = 2;
+    board.blitter.irqe = true;
+    board.blitter.irqf = true;
+    board
 }
 
 // Reset, what it tells, the ports and the blitter after it.
 fn resets<R: Print>(rt: &R, board: Board) -> io::Result<()> {
-    print::text(rt, b"reset")?;
     let changed = board.reset();
-    let report = changed.report;
-    let after = changed.board;
-    show::outcome(rt, report)?;
-    show::ports(rt, after)?;
-    all(rt, b"after reset", after)
+    println!(rt;
+        "reset{}{}",
+        Shown(changed.report),
+        Shown(changed.board.ports)
+    )?;
+    all(rt, "after reset", changed.board)
 }
 
 // What each call tells of a board, and the board that the last hands back.
-fn calls<R: Print>(rt: &R, name: &[u8], board: Board, mem: &mut [u8]) -> io::Result<()> {
-    print::text(rt, name)?;
-    print::text(rt, b": read")?;
+fn calls<R: Print>(rt: &R, name: &str, board: Board, mem: &mut [u8]) -> io::Result<()> {
+    print!(rt; "{name}: read")?;
     reads(rt, board, 0x60)?;
-    print::text(rt, b" write")?;
-    let changed = board.write(0x60, 1);
-    let written = changed.report;
-    show::outcome(rt, written)?;
+    print!(rt; " write{}", Shown(board.write(0x60, 1).report))?;
     let cleared = board.reset();
-    let told = cleared.report;
-    print::text(rt, b" reset")?;
-    show::outcome(rt, told)?;
-    ticks(rt, b"", cleared.board, mem)
+    print!(rt; " reset{}", Shown(cleared.report))?;
+    ticks(rt, "", cleared.board, mem)
 }
 
-fn ticks<R: Print>(rt: &R, name: &[u8], board: Board, mem: &mut [u8]) -> io::Result<()> {
+fn ticks<R: Print>(rt: &R, name: &str, board: Board, mem: &mut [u8]) -> io::Result<()> {
     let run = board.tick(mem);
-    let report = run.report;
-    print::text(rt, name)?;
-    print::text(rt, b" tick")?;
-    show::report(rt, report)?;
-    show::state(rt, run.board)
+    println!(rt;
+        "{name} tick{}{}",
+        Shown(run.report),
+        Shown(run.board.blitter)
+    )
+}
+
+// A new board with something changed.
+fn changed<F: FnOnce(&mut Board)>(change: F) -> Board
+    requires { F.IsAlwaysCallable change }
+{
+    let mut board = Board::new();
+    change(&mut board);
+    board
 }
 
 // Ports out of their widths.
 fn wide_ports<R: Print>(rt: &R, mem: &mut [u8]) -> io::Result<()> {
-    let mut video = Board::new();
-    video.ports.video = 16;
-    calls(rt, b"VIDEO_CONTROL 16", video, mem)?;
-    let mut xdl = Board::new();
-    xdl.ports.xdladr = 524288;
-    calls(rt, b"XDL_ADR 524288", xdl, mem)?;
-    let mut bl = Board::new();
-    bl.ports.bladr = 524288;
-    calls(rt, b"BL_ADR 524288", bl, mem)
+    calls(rt, "VIDEO_CONTROL 16", changed(|b| b.ports.video = 16), mem)?;
+    calls(
+        rt,
+        "XDL_ADR 524288",
+        changed(|b| b.ports.xdladr = 524288),
+        mem,
+    )?;
+    calls(
+        rt,
+        "BL_ADR 524288",
+        changed(|b| b.ports.bladr = 524288),
+        mem,
+    )
 }
 
 // A blitter with these fields and one byte of its block.
 fn with(flags: u8, list: u32, row: u16, col: u16, control: u8) -> Board {
-    let mut board = Board::new();
-    board.blitter.flags = flags;
-    board.blitter.list = list;
-    board.blitter.row = row;
-    board.blitter.col = col;
-    board.blitter.block.control = control;
-    board
+    changed(|b| {
+        b.blitter.flags = flags;
+        b.blitter.list = list;
+        b.blitter.row = row;
+        b.blitter.col = col;
+        b.blitter.block.control = control;
+    })
 }
 
-// Out of its width or range; idle, and something held.
-fn unsound_idle<R: Print>(rt: &R, mem: &mut [u8]) -> io::Result<()> {
-    calls(rt, b"list 524288", with(0, 524288, 0, 0, 0), mem)?;
-    calls(rt, b"flags 3", with(3, 0, 0, 0, 0), mem)?;
-    calls(rt, b"idle, row 1", with(0, 0, 1, 0, 0), mem)
-}
-
-// About to load, and something held; busy, and outside the block.
-fn unsound_running<R: Print>(rt: &R, mem: &mut [u8]) -> io::Result<()> {
-    calls(rt, b"load, control 8", with(1, 0, 0, 0, 8), mem)?;
-    calls(rt, b"busy, column 1 of 1", with(2, 0, 0, 1, 0), mem)?;
-    calls(rt, b"busy, row 1 of 1", with(2, 0, 1, 0, 0), mem)
+// Out of its width or range; idle, and something held; about to load, and something held; busy, and outside the block.
+fn unsound<R: Print>(rt: &R, mem: &mut [u8]) -> io::Result<()> {
+    for (name, board) in [
+        ("list 524288", with(0, 524288, 0, 0, 0)),
+        ("flags 3", with(3, 0, 0, 0, 0)),
+        ("idle, row 1", with(0, 0, 1, 0, 0)),
+        ("load, control 8", with(1, 0, 0, 0, 8)),
+        ("busy, column 1 of 1", with(2, 0, 0, 1, 0)),
+        ("busy, row 1 of 1", with(2, 0, 1, 0, 0)),
+    ] {
+        calls(rt, name, board, mem)?;
+    }
+    Ok(())
 }
 
 // Sound, though no run leaves it so.
 fn sound<R: Print>(rt: &R, mem: &mut [u8]) -> io::Result<()> {
-    ticks(rt, b"busy, 1 by 1", with(2, 0, 0, 0, 0), mem)?;
-    ticks(rt, b"idle, list 85", with(0, 85, 0, 0, 0), mem)?;
-    ticks(rt, b"load at 524287", with(1, 524287, 0, 0, 0), mem)
+    ticks(rt, "busy, 1 by 1", with(2, 0, 0, 0, 0), mem)?;
+    ticks(rt, "idle, list 85", with(0, 85, 0, 0, 0), mem)?;
+    ticks(rt, "load at 524287", with(1, 524287, 0, 0, 0), mem)
 }
 
 fn main(rt: HostRuntime) -> io::Result<()> {
@@ -240,15 +217,12 @@ fn main(rt: HostRuntime) -> io::Result<()> {
     nothing(&rt, board)?;
     let running = busy(board);
     outside(&rt, running)?;
-    all(&rt, b"reads of a new board", Board::new())?;
-    all(&rt, b"reads while busy", running)?;
+    all(&rt, "reads of a new board", Board::new())?;
+    all(&rt, "reads while busy", running)?;
     resets(&rt, running)?;
     let mut mem = [0u8; 16384];
     wide_ports(&rt, &mut mem)?;
-    unsound_idle(&rt, &mut mem)?;
-    unsound_running(&rt, &mut mem)?;
+    unsound(&rt, &mut mem)?;
     sound(&rt, &mut mem)?;
-    let mut raised = Board::new();
-    raised.blitter.irqf = true;
-    all(&rt, b"IRQF without IRQE", raised)
+    all(&rt, "IRQF without IRQE", changed(|b| b.blitter.irqf = true))
 }
