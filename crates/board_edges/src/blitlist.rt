@@ -39,8 +39,8 @@ pub fn ran<R: Print>(
     budget: u32,
 ) -> io::Result<Board> {
     let run = board.run(mem, budget);
-    println!(rt; "{name}{}{}", Shown(run.report), Shown(run.board.blitter))?;
-    Ok(run.board)
+    println!(rt; "{name}{}{}", Shown(run.report), Shown(run.state.blitter))?;
+    Ok(run.state)
 }
 
 // The first run of the list at 0.

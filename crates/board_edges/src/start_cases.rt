@@ -53,7 +53,7 @@ fn stops<R: Print>(rt: &R, mem: &mut [u8]) -> io::Result<()> {
 fn ends<R: Print>(rt: &R, mem: &mut [u8]) -> io::Result<()> {
     let busy = middle(rt, "busy before reset", mem)?;
     blitlist::ran(rt, "run to its end", busy, mem, 9)?;
-    println!(rt; "reset in the middle{}", Shown(busy.reset().board.blitter))
+    println!(rt; "reset in the middle{}", Shown(busy.reset().state.blitter))
 }
 
 // BL_ADR written while running changes BL_ADR alone: before the load,

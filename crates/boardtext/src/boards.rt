@@ -4,7 +4,7 @@ use board::Board;
 // A board with bytes written to its registers, one after the other.
 pub fn written(mut board: Board, bytes: &[(u32, u8)]) -> Board {
     for &(offset, value) in bytes {
-        board = board.write(offset, value).board;
+        board = board.write(offset, value).state;
     }
     board
 }

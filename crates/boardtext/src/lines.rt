@@ -3,7 +3,8 @@ use super::Shown;
 use super::boards::pointed;
 use super::frames::Lines;
 use board::Board;
-use frame::{Frame, FrameStart, LineReport};
+use frame::Frame;
+use print::RefusalLine;
 use record::Reader;
 use refusal::Refusal;
 use settings::Settings;
@@ -39,7 +40,7 @@ fn tell<R: Print>(rt: &R, mem: &[u8], list: Option<u32>, lines: Lines) -> io::Re
 // A line that is refused.
 fn refused<R: Print>(rt: &R, line: u16, why: Refusal) -> io::Result<()> {
     print!(rt; "line {line}: ")?;
-    print::refused(rt, why, 0)
+    rt.println(RefusalLine::from(why))
 }
 
 // The settings without what moves from line to line.
@@ -56,8 +57,8 @@ fn next_is<F: FnOnce(Settings) -> bool>(frame: Frame, mem: &[u8], like: F) -> bo
     requires { F.IsAlwaysCallable like }
 {
     match frame.next_line(mem).report {
-        LineReport::Refused(_) => false,
-        LineReport::Line(s) => like(s),
+        Ok(s) => like(s),
+        Err(_) => false,
     }
 }
 
@@ -73,10 +74,10 @@ fn joined<R: Print>(
     for i in 0..count {
         let to = frame.line;
         let next = frame.next_line(mem);
-        frame = next.frame;
+        frame = next.state;
         match next.report {
-            LineReport::Refused(why) => refused(rt, to, why)?,
-            LineReport::Line(settings) => {
+            Err(why) => refused(rt, to, why)?,
+            Ok(settings) => {
                 if i + 1 == count || !next_is(frame, mem, |s| s == settings) {
                     tell(rt, mem, list, Lines { from, to, settings })?;
                     from = frame.line;
@@ -98,10 +99,10 @@ fn samples<R: Print>(rt: &R, mut frame: Frame, mem: &[u8], list: Option<u32>) ->
     for _ in 0..Frame::LINES {
         let line = frame.line;
         let next = frame.next_line(mem);
-        frame = next.frame;
+        frame = next.state;
         match next.report {
-            LineReport::Refused(why) => refused(rt, line, why)?,
-            LineReport::Line(settings) => {
+            Err(why) => refused(rt, line, why)?,
+            Ok(settings) => {
                 let first = still(before) != still(settings);
                 let last = !next_is(frame, mem, |s| still(s) == still(settings));
                 if first || last || line % 9 == 0 {
@@ -117,18 +118,18 @@ fn samples<R: Print>(rt: &R, mut frame: Frame, mem: &[u8], list: Option<u32>) ->
 // A frame's next line, and the frame that comes back.
 pub fn ask<R: Print>(rt: &R, frame: Frame, mem: &[u8]) -> io::Result<()> {
     let next = frame.next_line(mem);
-    let after = next.frame;
+    let after = next.state;
     match next.report {
-        LineReport::Refused(why) => {
+        Err(why) => {
             let back = if after == frame {
                 "the frame as it was"
             } else {
                 "another frame"
             };
             print!(rt; "{back}, ")?;
-            print::refused(rt, why, 0)
+            rt.println(RefusalLine::from(why))
         }
-        LineReport::Line(settings) => {
+        Ok(settings) => {
             tell(rt, mem, None, Lines::one(frame.line, settings))?;
             println!(rt; "{}\nholds: {}", Shown(after), Shown(after.reader.settings))
         }
@@ -144,8 +145,8 @@ pub fn begun<R: Print, F: FnOnce(Frame) -> io::Result<()>>(
     requires { F.IsAlwaysCallable shown }
 {
     match Frame::start(board) {
-        FrameStart::Refused(why) => print::refused(rt, why, 0),
-        FrameStart::Started(frame) => shown(frame),
+        Ok(frame) => shown(frame),
+        Err(why) => rt.println(RefusalLine::from(why)),
     }
 }
 
@@ -170,7 +171,7 @@ pub fn show_bands<R: Print>(rt: &R, mem: &[u8], address: u32) -> io::Result<()> 
 // The frame after some lines.
 fn lines_on(mut frame: Frame, mem: &[u8], count: u16) -> Frame {
     for _ in 0..count {
-        frame = frame.next_line(mem).frame;
+        frame = frame.next_line(mem).state;
     }
     frame
 }

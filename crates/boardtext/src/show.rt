@@ -2,8 +2,8 @@
 use super::Shown;
 use blitter::Blitter;
 use board::Ports;
-use engine::RunReport;
-use refusal::Outcome;
+use engine::Counts;
+use refusal::Refusal;
 use std::{fmt, io};
 
 // The blitter between two ticks.
@@ -31,23 +31,23 @@ impl fmt::Display for Shown<Ports> {
 }
 
 // What a run reports.
-impl fmt::Display for Shown<RunReport> {
+impl fmt::Display for Shown<Result<Counts, Refusal>> {
     fn fmt<W: fmt::Write>(&self, f: &mut fmt::Formatter<W>) -> fmt::Result {
         match self.0 {
-            RunReport::Ran { ticks, accesses } => {
+            Ok(Counts { ticks, accesses }) => {
                 write!(f, ": ticks {ticks} accesses {accesses}")
             }
-            RunReport::Refused(why) => write!(f, ": refused {}", why.number()),
+            Err(why) => write!(f, ": refused {}", why.number()),
         }
     }
 }
 
 // Whether a call was done.
-impl fmt::Display for Shown<Outcome> {
+impl fmt::Display for Shown<Result<(), Refusal>> {
     fn fmt<W: fmt::Write>(&self, f: &mut fmt::Formatter<W>) -> fmt::Result {
         match self.0 {
-            Outcome::Done => f.write_str(" done"),
-            Outcome::Refused(why) => write!(f, " refused {}", why.number()),
+            Ok(()) => f.write_str(" done"),
+            Err(why) => write!(f, " refused {}", why.number()),
         }
     }
 }

@@ -8,17 +8,19 @@ mod plan_cases;
 
 use board::Board;
 use boardtext::boards::started;
-use engine::RunReport;
+use engine::Counts;
+use print::RefusalLine;
+use refusal::Refusal;
 use std::io;
 
 fn yes_no(t: bool) -> &'static str {
     if t { "yes" } else { "no" }
 }
 
-fn told<R: Print>(rt: &R, report: RunReport) -> io::Result<()> {
+fn told<R: Print>(rt: &R, report: Result<Counts, Refusal>) -> io::Result<()> {
     match report {
-        RunReport::Ran { ticks, accesses } => println!(rt; "{ticks} ticks, {accesses} accesses"),
-        RunReport::Refused(why) => print::refused(rt, why, 0),
+        Ok(Counts { ticks, accesses }) => println!(rt; "{ticks} ticks, {accesses} accesses"),
+        Err(why) => rt.println(RefusalLine::from(why)),
     }
 }
 
@@ -46,7 +48,7 @@ fn run<R: Print>(
     print!(rt; "{name}: ")?;
     let ran = started(0).run(mem, 1000);
     told(rt, ran.report)?;
-    println!(rt; "  code {}", ran.board.blitter.note.code)?;
+    println!(rt; "  code {}", ran.state.blitter.note.code)?;
     cells(rt, mem, addresses)
 }
 

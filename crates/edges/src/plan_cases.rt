@@ -1,7 +1,8 @@
 // Plans, compiled: what one shows as a frame, and what one needs of room. F() is a full band of one line that is off, its fields
 // 8 by 8; R() is a running-on item of one line.
 use boardtext::lines;
-use plan::Compiled;
+use plan::ItemRefusal;
+use print::{HexBytes, RefusalLine};
 use std::io;
 
 // F(), whose list has 22 bytes.
@@ -45,16 +46,14 @@ fn below<R: Print>(rt: &R) -> io::Result<()> {
 fn told<R: Print>(rt: &R, title: &str, plan: &[u8], out: &mut [u8]) -> io::Result<()> {
     print!(rt; "{title} into {}: ", out.len())?;
     match plan::compile(plan, out) {
-        Compiled::Done(bytes) => println!(rt; "{bytes} bytes"),
-        Compiled::Refused(why, item) => print::refused(rt, why, item),
+        Ok(bytes) => println!(rt; "{bytes} bytes"),
+        Err(ItemRefusal { why, item }) => rt.println(RefusalLine { why, item }),
     }
 }
 
 // Bytes of a buffer, in a line.
 fn held<R: Print>(rt: &R, out: &[u8]) -> io::Result<()> {
-    print!(rt; " ")?;
-    print::bytes(rt, out)?;
-    println!(rt)
+    println!(rt; " {}", HexBytes(out))
 }
 
 // What is told, and all that the buffer holds.

@@ -1,7 +1,7 @@
 // Display lists. A case names itself and its list; under it stand the lines of the frame, those that are all alike as one,
 // and the frame that is left.
 use boardtext::lines;
-use refusal::Outcome;
+use print::{HexBytes, RefusalLine};
 use std::io;
 
 // The list that the paper works out.
@@ -63,18 +63,18 @@ impl<'a> Case<'a> {
 
 // The list written into memory, which is else 0, and the first lines of its frame.
 fn shown<R: Print>(rt: &R, mem: &mut [u8], case: &Case) -> io::Result<()> {
-    print!(rt; "{}", case.title)?;
-    print::bytes(rt, case.list)?;
     println!(rt;
-        " at {}, XDL_ADR {}, VIDEO_CONTROL {:02X}, L {}",
+        "{}{} at {}, XDL_ADR {}, VIDEO_CONTROL {:02X}, L {}",
+        case.title,
+        HexBytes(case.list),
         case.at,
         case.address,
         case.video,
         mem.len()
     )?;
     match vram::install(mem, case.list, case.at) {
-        Outcome::Refused(why) => print::refused(rt, why, 0),
-        Outcome::Done => lines::show(rt, mem, case.address, case.video, case.count),
+        Err(why) => rt.println(RefusalLine::from(why)),
+        Ok(()) => lines::show(rt, mem, case.address, case.video, case.count),
     }
 }
 

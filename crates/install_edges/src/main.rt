@@ -1,15 +1,15 @@
 // Installing at its edges: each line says what was lent and what the call told.
 #![tactic(auto)]
 
-use refusal::Outcome;
+use print::RefusalLine;
 use std::io;
 
 // Installs the list and prints what was told.
 fn told<R: Print>(rt: &R, mem: &mut [u8], list: &[u8], address: u32) -> io::Result<()> {
     print!(rt; "L {}, {} bytes at {address}: ", mem.len(), list.len())?;
     match vram::install(mem, list, address) {
-        Outcome::Done => println!(rt; "installed"),
-        Outcome::Refused(why) => print::refused(rt, why, 0),
+        Ok(()) => println!(rt; "installed"),
+        Err(why) => rt.println(RefusalLine::from(why)),
     }
 }
 

@@ -3,7 +3,7 @@
 #![tactic(auto)]
 
 use board::Board;
-use pixels::Drawn;
+use print::RefusalLine;
 use settings::Settings;
 use std::io;
 
@@ -47,9 +47,9 @@ fn into<R: Print>(
         return Ok(());
     };
     match pixels::draw(board, settings, mem, lent) {
-        Drawn::Pixels(n) => counted(rt, line, n as usize),
-        Drawn::Refused(why) => {
-            print::refused(rt, why, 0)?;
+        Ok(n) => counted(rt, line, n as usize),
+        Err(why) => {
+            rt.println(RefusalLine::from(why))?;
             behind(rt, line, 0)
         }
     }

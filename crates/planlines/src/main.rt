@@ -21,7 +21,6 @@ use boardtext::lines;
 use frame::Frame;
 use plantext::files::Host;
 use print::RefusalLine;
-use refusal::Outcome;
 use std::env::Env;
 use std::rt::Files;
 use std::{fmt, io};
@@ -129,8 +128,8 @@ fn shown<R: Print, F: FnOnce(&[u8]) -> io::Result<()>>(
     };
     let mut mem = [0xEEu8; 16384];
     match vram::install(&mut mem, &list[..n], at) {
-        Outcome::Done => show(&mem),
-        Outcome::Refused(why) => rt.println(RefusalLine::from(why)),
+        Ok(()) => show(&mem),
+        Err(why) => rt.println(RefusalLine::from(why)),
     }
 }
 

@@ -7,9 +7,9 @@ ghost use Rattle.plantext.specs.Counts.{IsPrefixLen};
 
 mod picture;
 
+use boardtext::boards::pointed;
 use plantext::files::Host;
 use print::RefusalLine;
-use refusal::Outcome;
 use std::env::Env;
 use std::io;
 use std::rt::Files;
@@ -54,8 +54,8 @@ fn installed<R: Print, E: Print>(
     video: u8,
 ) -> io::Result<()> {
     match vram::install(mem, list, LIST) {
-        Outcome::Done => picture::write(host, picture::pointed(LIST, video), mem),
-        Outcome::Refused(why) => host.errors.println(RefusalLine::from(why)),
+        Ok(()) => picture::write(host, pointed(LIST, video), mem),
+        Err(why) => host.errors.println(RefusalLine::from(why)),
     }
 }
 

@@ -2,8 +2,7 @@
 ghost use Rattle.std.specs.Prelude.{◌≤◌, length};
 
 use board::Board;
-use frame::{Frame, FrameStart, LineReport};
-use pixels::Drawn;
+use frame::Frame;
 use plantext::files::Host;
 use print::RefusalLine;
 use settings::Settings;
@@ -74,11 +73,11 @@ fn write_line<R: Print, E: Print>(
 ) -> io::Result<()> {
     let mut line = [0u16; WIDTH];
     match pixels::draw(board, settings, mem, &mut line) {
-        Drawn::Pixels(n) => match line.get(..usize::from(n)) {
+        Ok(n) => match line.get(..usize::from(n)) {
             Some(line) => write_row(host.rt, line, points(settings.overlay.mode)),
             None => Ok(()),
         },
-        Drawn::Refused(why) => host.errors.println(RefusalLine::from(why)),
+        Err(why) => host.errors.println(RefusalLine::from(why)),
     }
 }
 
@@ -92,35 +91,21 @@ fn write_lines<R: Print, E: Print>(
     for _ in 0..Frame::LINES {
         let next = frame.next_line(mem);
         match next.report {
-            LineReport::Line(settings) => write_line(host, board, settings, mem)?,
-            LineReport::Refused(why) => host.errors.println(RefusalLine::from(why))?,
+            Ok(settings) => write_line(host, board, settings, mem)?,
+            Err(why) => host.errors.println(RefusalLine::from(why))?,
         }
-        frame = next.frame;
+        frame = next.state;
     }
     Ok(())
-}
-
-// A board that is pointed at the list, by its registers.
-pub fn pointed(list: u32, video: u8) -> Board {
-    let mut board = Board::new();
-    for (offset, value) in [
-        (0x41, list % 256),
-        (0x42, list / 256 % 256),
-        (0x43, list / 65536 % 256),
-        (0x40, u32::from(video)),
-    ] {
-        board = board.write(offset, value as u8).board;
-    }
-    board
 }
 
 // The picture of the frame that a board shows of a memory.
 pub fn write<R: Print, E: Print>(host: &Host<R, E>, board: Board, mem: &[u8]) -> io::Result<()> {
     match Frame::start(board) {
-        FrameStart::Started(frame) => {
+        Ok(frame) => {
             print!(host.rt; "P6\n672 240\n255\n")?;
             write_lines(host, board, frame, mem)
         }
-        FrameStart::Refused(why) => host.errors.println(RefusalLine::from(why)),
+        Err(why) => host.errors.println(RefusalLine::from(why)),
     }
 }

@@ -9,7 +9,7 @@ ghost use Rattle.plantext.specs.Counts.{IsPrefixLen};
 ghost use Rattle.plantext.specs.Hex.{digit_of, behind_of, hex_of, hex_line};
 ghost use Rattle.plantext.specs.Listed.{list_size};
 
-use plan::Compiled;
+use plan::ItemRefusal;
 use print::RefusalLine;
 use std::io;
 
@@ -83,8 +83,8 @@ pub fn compiled<P: Print>(plan: &[u8], list: &mut [u8], refusals: &P) -> Option<
     ensures list { list.new ≡ compile_output plan.now list.old }
 {
     match plan::compile(plan, list) {
-        Compiled::Done(bytes) => Some(bytes),
-        Compiled::Refused(why, item) => {
+        Ok(bytes) => Some(bytes),
+        Err(ItemRefusal { why, item }) => {
             let _ = refusals.println(RefusalLine { why, item });
             None
         }

@@ -1,15 +1,15 @@
 // The registers at their edges, reset, and boards that are unsound: each line says what was done, what was told and how the board stands.
 #![tactic(auto)]
 
-use board::{Board, ReadReport};
+use board::Board;
 use boardtext::{Shown, blocks};
 use std::io;
 
 // What a read gives.
 fn reads<R: Print>(rt: &R, board: Board, offset: u32) -> io::Result<()> {
     match board.read(offset) {
-        ReadReport::Byte(v) => print!(rt; " {v:02X}"),
-        ReadReport::Refused(why) => print!(rt; " refused {}", why.number()),
+        Ok(v) => print!(rt; " {v:02X}"),
+        Err(why) => print!(rt; " refused {}", why.number()),
     }
 }
 
@@ -32,7 +32,7 @@ fn all<R: Print>(rt: &R, name: &str, board: Board) -> io::Result<()> {
 fn writes<R: Print>(rt: &R, board: Board, offset: u32, value: u8) -> io::Result<Board> {
     let changed = board.write(offset, value);
     print!(rt; " {offset}{}", Shown(changed.report))?;
-    Ok(changed.board)
+    Ok(changed.state)
 }
 
 // Three registers one after the other, and the ports after them.
@@ -129,9 +129,9 @@ fn resets<R: Print>(rt: &R, board: Board) -> io::Result<()> {
     println!(rt;
         "reset{}{}",
         Shown(changed.report),
-        Shown(changed.board.ports)
+        Shown(changed.state.ports)
     )?;
-    all(rt, "after reset", changed.board)
+    all(rt, "after reset", changed.state)
 }
 
 // What each call tells of a board, and the board that the last hands back.
@@ -141,7 +141,7 @@ fn calls<R: Print>(rt: &R, name: &str, board: Board, mem: &mut [u8]) -> io::Resu
     print!(rt; " write{}", Shown(board.write(0x60, 1).report))?;
     let cleared = board.reset();
     print!(rt; " reset{}", Shown(cleared.report))?;
-    ticks(rt, "", cleared.board, mem)
+    ticks(rt, "", cleared.state, mem)
 }
 
 fn ticks<R: Print>(rt: &R, name: &str, board: Board, mem: &mut [u8]) -> io::Result<()> {
@@ -149,7 +149,7 @@ fn ticks<R: Print>(rt: &R, name: &str, board: Board, mem: &mut [u8]) -> io::Resu
     println!(rt;
         "{name} tick{}{}",
         Shown(run.report),
-        Shown(run.board.blitter)
+        Shown(run.state.blitter)
     )
 }
 
