@@ -6,12 +6,12 @@ use Rattle.plantext.proofs.Counting.{prefix_len_of_le}
 use Rattle.plantext.proofs.Listing.{list_some}
 use Rattle.plantext.proofs.compiled.Goals as goal
 
-pub returns-in-Done-clause-prefix_len : goal.returns-in-Done-clause-prefix_len
-returns-in-Done-clause-prefix_len g c =
-    let taken = accepted c.args.plan.now c.args.list.now c.in-Done.bytes (sym c.in-Done.ensures.answer) in
+pub returns-in-Ok-clause-prefix_len : goal.returns-in-Ok-clause-prefix_len
+returns-in-Ok-clause-prefix_len g c =
+    let taken = accepted c.args.plan.now c.args.list.now c.in-Ok.bytes (sym c.in-Ok.ensures.answer) in
     prefix_len_of_le _ _ (omega (arith, taken.room, c.compile.auto))
 
-pub returns-in-Done-clause-bytes : goal.returns-in-Done-clause-bytes
-returns-in-Done-clause-bytes g c =
-    let taken = accepted c.args.plan.now c.args.list.now c.in-Done.bytes (sym c.in-Done.ensures.answer) in
-    (ap list_size c.in-Done.ensures.answer, omega (arith, taken.count, list_some c.args.plan.now taken.items))
+pub returns-in-Ok-clause-bytes : goal.returns-in-Ok-clause-bytes
+returns-in-Ok-clause-bytes g c =
+    let taken = accepted c.args.plan.now c.args.list.now c.in-Ok.bytes (sym c.in-Ok.ensures.answer) in
+    (ap list_size c.in-Ok.ensures.answer, omega (arith, taken.count, list_some c.args.plan.now taken.items))
