@@ -5,10 +5,6 @@ use Rattle.std.specs.Prelude.{◌≡◌, Bool, true, cond, ◌&&◌, List, [], �
 abbrev pub word_at : List ℕ → ℕ → ℕ
 word_at words k = get_or words k 0
 
--- at each place they say the same
-abbrev pub SameWords : List ℕ → List ℕ → Type 0
-SameWords a b = (k : ℕ) → word_at a k ≡ word_at b k
-
 -- it as a byte, as 16 bits and as a switch: of a word within its field's type, the word itself
 abbrev pub byte_in : List ℕ → ℕ → ℕ
 byte_in words k = word_at words k % 256
@@ -41,3 +37,7 @@ within (most ∷ more) words k = leb (word_at words k) most && within more words
 -- a state's words laid over what is lent: "words past the last stay as they are". Where there is no room nothing is written
 abbrev pub laid : List ℕ → List ℕ → List ℕ
 laid new old = cond (leb (length new) (length old)) (new ++ drop (length new) old) old
+
+-- two buffers that say the same at each place
+abbrev pub SameWords : List ℕ → List ℕ → Type 0
+SameWords a b = (k : ℕ) → word_at a k ≡ word_at b k
