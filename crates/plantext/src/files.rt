@@ -53,7 +53,7 @@ fn tell<E: Print>(errors: &E, what: &[u8], why: io::Error) -> io::Result<()> {
     println!(errors; ": {why}")
 }
 
-// So many bytes of a longer argument are too many: a path has one less at most.
+// The longest argument that is read; a path has one byte less at most. A file by a longer argument is told without its name.
 const WORD: usize = 4096;
 
 impl<R: Env, E> Host<'_, R, E> {
