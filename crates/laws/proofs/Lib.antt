@@ -2,5 +2,4 @@
 pub mod Choice
 pub mod Lent
 pub mod Once
-pub mod Signed
 pub mod Xor
