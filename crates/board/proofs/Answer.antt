@@ -8,7 +8,6 @@ use lib.Dec.{eqb}
 use lib.ListN.{length}
 use Rattle.refusal.specs.Sheet.{Told, done, refused, unless, kept}
 use Rattle.vram.specs.Memory.{good_length}
-use Rattle.blitter.specs.State.{stopped, interrupts}
 use Rattle.engine.specs.Tick.{tick_blitter, tick_memory, tick_count}
 use Rattle.engine.specs.declared.Counts.{Counts}
 use Rattle.engine.specs.Run as blit
@@ -16,8 +15,8 @@ use Rattle.engine.specs.Run.{Progress, ticked, onward, run_for, begun, counted}
 use Rattle.blitter.specs.declared.Blitter.{Blitter}
 use Rattle.board.specs.declared.Ports.{Ports}
 use Rattle.board.specs.declared.Board.{Board}
-use Rattle.board.specs.Ports.{sound_ports, video_set, ports_written}
-use Rattle.board.specs.Board.{changed, with_blitter, sound_board, register, blitter_written, write_answer, write_board, read_byte, read_answer, reset_answer, reset_board, run_answer, run_board, run_memory, tick_answer, tick_board, tick_mem}
+use Rattle.board.specs.Ports.{sound_ports, ports_written}
+use Rattle.board.specs.Board.{changed, with_blitter, sound_board, register, blitter_written, write_answer, write_board, run_answer, run_board, run_memory, tick_answer, tick_board, tick_mem}
 
 -- Registers.
 module _ (b : Board) (offset v : ℕ) where

@@ -34,9 +34,7 @@ impl fmt::Display for Shown<Ports> {
 impl fmt::Display for Shown<Result<Counts, Refusal>> {
     fn fmt<W: fmt::Write>(&self, f: &mut fmt::Formatter<W>) -> fmt::Result {
         match self.0 {
-            Ok(Counts { ticks, accesses }) => {
-                write!(f, ": ticks {ticks} accesses {accesses}")
-            }
+            Ok(Counts { ticks, accesses }) => { write!(f, ": ticks {ticks} accesses {accesses}") }
             Err(why) => write!(f, ": refused {}", why.number()),
         }
     }

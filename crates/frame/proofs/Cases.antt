@@ -1,22 +1,17 @@
 -- The cases of a line, one equation each. Assumes nothing.
-use mathlib.Core.Path.{◌≡◌, sym, ap, ◌∙◌}
+use mathlib.Core.Path.{◌≡◌}
 use mathlib.Core.Bool.{Bool, true, false, cond}
 use mathlib.Core.List.{List}
-use Prim.Native.Nat.{ℕ, ◌+◌, ◌-◌, ◌%◌, ◌≤◌, ◌<◌}
-use native.Mathlib.Nat.{div-one}
-use lib.Dec.{eqb}
+use Prim.Native.Nat.{ℕ, ◌+◌, ◌-◌, ◌≤◌, ◌<◌}
 use lib.ListN.{length}
 use borrow.Author.Tests.{lt-ltb, le-ltb}
-use Rattle.board.specs.Board.{sound_board}
-use Rattle.board.specs.declared.Board.{Board}
 use Rattle.record.specs.Parts.{with_settings, repeating}
 use Rattle.record.specs.Record.{record_of}
 use Rattle.record.specs.declared.Reader.{Reader}
 use Rattle.refusal.specs.Sheet.{done, refused}
 use Rattle.settings.specs.Settings.{beginning, off}
-use Rattle.settings.specs.declared.Settings.{Settings}
 use Rattle.vram.specs.Memory.{good_length}
-use Rattle.frame.specs.Frame.{start_of, start_answer, sound_frame, frame_at, fetched, advanced_reader, shown, next_frame, line_answer, line_frame}
+use Rattle.frame.specs.Frame.{sound_frame, frame_at, fetched, advanced_reader, shown, next_frame, line_answer, line_frame}
 use Rattle.frame.specs.declared.Frame.{Frame}
 
 -- the second and the third of three

@@ -1,9 +1,8 @@
 -- The cases of a drawing, one equation each, and what a drawing that is done says of its settings. Assumes nothing.
-use mathlib.Core.Path.{◌≡◌, refl, sym, ap, ◌∙◌}
+use mathlib.Core.Path.{◌≡◌, refl, sym, ap}
 use mathlib.Core.Bool.{Bool, true, false, ◌&&◌}
 use mathlib.Core.List.{List}
-use Prim.Native.Nat.{ℕ, ◌≤◌, ◌<◌}
-use native.Mathlib.Omega.{arith}
+use Prim.Native.Nat.{ℕ, ◌<◌}
 use lib.Dec.{leb}
 use lib.ListN.{length}
 use borrow.Author.Tests.{le-leb, lt-leb}
@@ -15,8 +14,8 @@ use Rattle.board.specs.Board.{sound_board}
 use Rattle.board.specs.declared.Board.{Board}
 use Rattle.settings.specs.Settings.{sound_settings}
 use Rattle.settings.specs.declared.Settings.{Settings}
-use Rattle.pixels.specs.Pixels.{line_count, pixel_at}
-use Rattle.pixels.specs.Draw.{filled, draw_answer, draw_output}
+use Rattle.pixels.specs.Pixels.{line_count}
+use Rattle.pixels.specs.Draw.{draw_answer, draw_output}
 use Rattle.pixels.proofs.Counts.{count_most}
 
 -- what is told, and what the line holds
