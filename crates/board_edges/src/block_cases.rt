@@ -37,15 +37,17 @@ fn modes<R: Print>(rt: &R, mem: &mut [u8], s: u8) -> io::Result<()> {
     Ok(())
 }
 
-// The accesses of mode 1 go by the mask alone, those of mode 6 do not. No collision where s is 0, nor in mode 0. The code is the
-// destination before the write.
+// When a byte collides, and with which code.
 fn codes<R: Print>(rt: &R, mem: &mut [u8]) -> io::Result<()> {
     for (name, d, s, hitmask, control) in [
+        // The accesses of mode 1 go by the mask alone, those of mode 6 do not.
         ("mode 1, mask 0", 33, 1, 0, 1),
         ("mode 1, mask 1, d 0", 0, 1, 1, 1),
         ("mode 6, mask 0", 33, 1, 0, 6),
+        // No collision where s is 0, nor in mode 0.
         ("mode 4, s 0, d 33", 33, 0, 255, 4),
         ("mode 0, d 33", 33, 1, 255, 0),
+        // The code is the destination before the write.
         ("200 + 100", 200, 100, 0x40, 2),
         ("32 AND 1", 32, 1, 2, 4),
         ("32 XOR 1", 32, 1, 2, 5),
