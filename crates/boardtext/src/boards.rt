@@ -1,5 +1,10 @@
-// Boards that the programs begin with.
+// Boards and memories that the programs begin with.
 use board::Board;
+
+// Bytes put into memory. What the programs put there is never refused.
+pub fn put(mem: &mut [u8], bytes: &[u8], at: u32) {
+    let _ = vram::install(mem, bytes, at);
+}
 
 // A board with bytes written to its registers, one after the other.
 pub fn written(mut board: Board, bytes: &[(u32, u8)]) -> Board {
