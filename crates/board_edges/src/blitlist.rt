@@ -1,7 +1,7 @@
 // A blitter list: its blocks, laid into memory, started, run and shown.
 use block::Block;
 use board::Board;
-use boardtext::boards::started;
+use boardtext::boards::{put, started};
 use boardtext::{Shown, blocks, show};
 use std::io;
 
@@ -27,7 +27,7 @@ pub fn fill(d: u8, value: u8) -> Block {
 
 // Writes a block's 21 bytes into a list.
 pub fn lay(mem: &mut [u8], at: u32, block: Block) {
-    vram::install(mem, &blocks::bytes(block), at);
+    put(mem, &blocks::bytes(block), at);
 }
 
 // A run, what it reports, and how the board stands after it.

@@ -3,7 +3,7 @@
 use super::{blitlist, flat};
 use block::Block;
 use board::Board;
-use boardtext::boards::{started, written};
+use boardtext::boards::{put, started, written};
 use boardtext::show;
 use std::io;
 
@@ -19,7 +19,7 @@ fn hits<R: Print>(
     control: u8,
 ) -> io::Result<()> {
     let at = 256 * u32::from(page);
-    vram::install(mem, &[d], at);
+    put(mem, &[d], at);
     let byte = Block {
         hitmask,
         control,
@@ -37,15 +37,17 @@ fn modes<R: Print>(rt: &R, mem: &mut [u8], s: u8) -> io::Result<()> {
     Ok(())
 }
 
-// The accesses of mode 1 go by the mask alone, those of mode 6 do not. No collision where s is 0, nor in mode 0. The code is the
-// destination before the write.
+// When a byte collides, and with which code.
 fn codes<R: Print>(rt: &R, mem: &mut [u8]) -> io::Result<()> {
     for (name, d, s, hitmask, control) in [
+        // The accesses of mode 1 go by the mask alone, those of mode 6 do not.
         ("mode 1, mask 0", 33, 1, 0, 1),
         ("mode 1, mask 1, d 0", 0, 1, 1, 1),
         ("mode 6, mask 0", 33, 1, 0, 6),
+        // No collision where s is 0, nor in mode 0.
         ("mode 4, s 0, d 33", 33, 0, 255, 4),
         ("mode 0, d 33", 33, 1, 255, 0),
+        // The code is the destination before the write.
         ("200 + 100", 200, 100, 0x40, 2),
         ("32 AND 1", 32, 1, 2, 4),
         ("32 XOR 1", 32, 1, 2, 5),
@@ -57,7 +59,7 @@ fn codes<R: Print>(rt: &R, mem: &mut [u8]) -> io::Result<()> {
 
 // 55h in mode 6, on 90h and then on 0Ah.
 fn two_nibbles(mem: &mut [u8]) {
-    vram::install(mem, b"\x90\x0A", 0x1800);
+    put(mem, b"\x90\x0A", 0x1800);
     let two = Block {
         width0: 1,
         hitmask: 0x30,
@@ -82,7 +84,7 @@ fn with_code(code: u8) -> Board {
 }
 
 fn other_nibble<R: Print>(rt: &R, mem: &mut [u8]) -> io::Result<()> {
-    vram::install(mem, b"\x1F", 0x1800);
+    put(mem, b"\x1F", 0x1800);
     let one = Block {
         hitmask: 0x80,
         control: 6,
@@ -95,7 +97,7 @@ fn other_nibble<R: Print>(rt: &R, mem: &mut [u8]) -> io::Result<()> {
 
 // Later collisions replace earlier ones, across the blocks of a list.
 fn two_hits<R: Print>(rt: &R, mem: &mut [u8]) -> io::Result<()> {
-    vram::install(mem, b"\x21\x28", 0x1900);
+    put(mem, b"\x21\x28", 0x1900);
     let first = Block {
         hitmask: 255,
         control: 9,
@@ -160,7 +162,7 @@ fn patterns<R: Print>(rt: &R, mem: &mut [u8]) -> io::Result<()> {
 
 // The source is read anew for each destination byte.
 fn anew<R: Print>(rt: &R, mem: &mut [u8]) -> io::Result<()> {
-    vram::install(mem, b"\x01\x00\x00\x00", 0x2000);
+    put(mem, b"\x01\x00\x00\x00", 0x2000);
     let same = Block {
         zoom: 1,
         xormask: 1,
@@ -171,7 +173,7 @@ fn anew<R: Print>(rt: &R, mem: &mut [u8]) -> io::Result<()> {
 
 // A copy over itself goes byte by byte.
 fn over_itself<R: Print>(rt: &R, mem: &mut [u8]) -> io::Result<()> {
-    vram::install(mem, b"\x07\x00\x00\x00", 0x2000);
+    put(mem, b"\x07\x00\x00\x00", 0x2000);
     let mut over = blitlist::plain(0x20, 0x20);
     over.dest.adr0 = 1;
     over.width0 = 3;
@@ -208,8 +210,8 @@ fn struck<R: Print>(rt: &R, mem: &mut [u8]) -> io::Result<()> {
 
 // Zoom, pattern and steps. What is copied stands at 2000h; 16381 holds a byte that a step must spare.
 fn shaped<R: Print>(rt: &R, mem: &mut [u8]) -> io::Result<()> {
-    vram::install(mem, b"\x01\x02\x03\x04", 0x2000);
-    vram::install(mem, b"\x01", 16381);
+    put(mem, b"\x01\x02\x03\x04", 0x2000);
+    put(mem, b"\x01", 16381);
     zoomed(rt, "zoom 10", mem, 0x10)?;
     zoomed(rt, "zoom 89", mem, 0x89)?;
     patterns(rt, mem)?;

@@ -2,6 +2,7 @@
 // mode that skips, and without a source. The list is at 100, since a row may be at 0.
 use super::blitlist;
 use block::Block;
+use boardtext::boards::put;
 use std::io;
 
 // A row of eight from page s to page d.
@@ -16,7 +17,7 @@ const EIGHT: &[u8] = b"\x01\x02\x03\x04\x05\x06\x07\x08";
 
 // Each byte is read after the one before was written: the first goes on and on.
 fn further<R: Print>(rt: &R, mem: &mut [u8]) -> io::Result<()> {
-    vram::install(mem, EIGHT, 0x2000);
+    put(mem, EIGHT, 0x2000);
     let mut block = row(0x20, 0x20);
     block.dest.adr0 = 1;
     blitlist::single(rt, "8 bytes one further", mem, 100, block, 0x2000)
@@ -24,7 +25,7 @@ fn further<R: Print>(rt: &R, mem: &mut [u8]) -> io::Result<()> {
 
 // Each byte is read before it is written: they move.
 fn back<R: Print>(rt: &R, mem: &mut [u8]) -> io::Result<()> {
-    vram::install(mem, b"\x01\x02\x03\x04\x05\x06\x07\x08\x09", 0x2000);
+    put(mem, b"\x01\x02\x03\x04\x05\x06\x07\x08\x09", 0x2000);
     let mut block = row(0x20, 0x20);
     block.source.adr0 = 1;
     blitlist::single(rt, "8 bytes one back", mem, 100, block, 0x2000)
@@ -32,7 +33,7 @@ fn back<R: Print>(rt: &R, mem: &mut [u8]) -> io::Result<()> {
 
 // One byte, zoomed, that is itself the fourth of those written.
 fn among<R: Print>(rt: &R, mem: &mut [u8]) -> io::Result<()> {
-    vram::install(mem, EIGHT, 0x2000);
+    put(mem, EIGHT, 0x2000);
     let mut block = blitlist::plain(0x20, 0x20);
     block.source.adr0 = 3;
     block.xormask = 1;
@@ -42,7 +43,7 @@ fn among<R: Print>(rt: &R, mem: &mut [u8]) -> io::Result<()> {
 
 // Four bytes at the memory's end, and four at its beginning.
 fn past<R: Print>(rt: &R, mem: &mut [u8]) -> io::Result<()> {
-    vram::install(mem, EIGHT, 0x2000);
+    put(mem, EIGHT, 0x2000);
     let mut block = row(0x20, 0x3F);
     block.dest.adr0 = 0xFC;
     blitlist::single(rt, "8 bytes past the end", mem, 100, block, 16380)
@@ -50,8 +51,8 @@ fn past<R: Print>(rt: &R, mem: &mut [u8]) -> io::Result<()> {
 
 // Mode 1 skips every second byte.
 fn skipping<R: Print>(rt: &R, mem: &mut [u8]) -> io::Result<()> {
-    vram::install(mem, b"\x01\x00\x02\x00\x03\x00\x04\x00", 0x2000);
-    vram::install(mem, b"\x11\x12\x13\x14\x15\x16\x17\x18", 0x2100);
+    put(mem, b"\x01\x00\x02\x00\x03\x00\x04\x00", 0x2000);
+    put(mem, b"\x11\x12\x13\x14\x15\x16\x17\x18", 0x2100);
     let mut block = row(0x20, 0x21);
     block.control = 1;
     blitlist::single(rt, "8 bytes in mode 1", mem, 100, block, 0x2100)
@@ -59,7 +60,7 @@ fn skipping<R: Print>(rt: &R, mem: &mut [u8]) -> io::Result<()> {
 
 // Mode 5 without a source turns each bit.
 fn turned<R: Print>(rt: &R, mem: &mut [u8]) -> io::Result<()> {
-    vram::install(mem, EIGHT, 0x2100);
+    put(mem, EIGHT, 0x2100);
     let block = Block {
         width0: 7,
         control: 5,

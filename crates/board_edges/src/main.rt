@@ -10,13 +10,13 @@ mod start_cases;
 
 use block::Block;
 use board::Board;
-use boardtext::boards::started;
+use boardtext::boards::{put, started};
 use boardtext::show;
 use std::io;
 
 // Copy and fill of 4 bytes.
 fn copies<R: Print>(rt: &R, mem: &mut [u8]) -> io::Result<()> {
-    vram::install(mem, b"\x01\x02\x03\x04", 0x2000);
+    put(mem, b"\x01\x02\x03\x04", 0x2000);
     let mut copy = blitlist::plain(0x20, 0x10);
     copy.width0 = 3;
     blitlist::single(rt, "copy of 4", mem, 0, copy, 0x1000)?;
@@ -120,7 +120,7 @@ fn back() -> Block {
 
 // A list of two blocks, 146 ticks.
 fn long_list(mem: &mut [u8]) {
-    vram::install(mem, b"\x01\x02\x03\x04\x05\x06\x07\x08", 0x2000);
+    put(mem, b"\x01\x02\x03\x04\x05\x06\x07\x08", 0x2000);
     blitlist::lay(mem, 0, sum());
     blitlist::lay(mem, 21, back());
 }

@@ -1,7 +1,7 @@
 // A pointer drawn in mode 5 and taken away by drawing it again (document 02, A13): where that is allowed, and where it is not.
 use super::blitlist;
 use block::Block;
-use boardtext::boards::{started, written};
+use boardtext::boards::{put, started, written};
 use boardtext::show;
 use std::io;
 
@@ -11,7 +11,7 @@ fn compare<R: Print>(rt: &R, one: &[u8], two: &[u8]) -> io::Result<()> {
 
 // Cells from 2100h on, and a list of one block at 0.
 fn prepare(mem: &mut [u8], cells: &[u8], block: Block) {
-    vram::install(mem, cells, 0x2100);
+    put(mem, cells, 0x2100);
     blitlist::lay(mem, 0, block);
 }
 

@@ -7,7 +7,7 @@ mod collisions;
 mod plan_cases;
 
 use board::Board;
-use boardtext::boards::started;
+use boardtext::boards::{put, started};
 use engine::Counts;
 use print::RefusalLine;
 use refusal::Refusal;
@@ -44,7 +44,7 @@ fn run<R: Print>(
     list: &[u8],
     addresses: &[u32],
 ) -> io::Result<()> {
-    vram::install(mem, list, 0);
+    put(mem, list, 0);
     print!(rt; "{name}: ")?;
     let ran = started(0).run(mem, 1000);
     told(rt, ran.report)?;
@@ -116,7 +116,7 @@ fn trap_list<R: Print>(rt: &R, mem: &mut [u8]) -> io::Result<()> {
 
 // d = 2 and mask 02 share a bit, but 2 is in the range of mask bit 0.
 fn trap_mask<R: Print>(rt: &R, mem: &mut [u8]) -> io::Result<()> {
-    vram::install(mem, b"\x02", 0x3100);
+    put(mem, b"\x02", 0x3100);
     run(
         rt,
         "collision by ranges, not by bits",
@@ -128,7 +128,7 @@ fn trap_mask<R: Print>(rt: &R, mem: &mut [u8]) -> io::Result<()> {
 
 // Zoomed by 2, the destination still goes byte by byte.
 fn trap_zoom<R: Print>(rt: &R, mem: &mut [u8]) -> io::Result<()> {
-    vram::install(mem, b"\x01\x02", 0x3200);
+    put(mem, b"\x01\x02", 0x3200);
     run(
         rt,
         "zoom 2 does not zoom the step",

@@ -1,5 +1,6 @@
 // Plans, compiled: what one shows as a frame, and what one needs of room. F() is a full band of one line that is off, its fields
 // 8 by 8; R() is a running-on item of one line.
+use boardtext::boards::put;
 use boardtext::lines;
 use plan::ItemRefusal;
 use print::{HexBytes, RefusalLine};
@@ -12,8 +13,8 @@ const BAND: &[u8; 27] = b"\x17\0\x01\0\x01\0\0\0\0\0\0\0\0\0\0\0\0\0\0\0\0\0\x08
 fn shown<R: Print>(rt: &R, title: &str, plan: &[u8]) -> io::Result<()> {
     let mut mem = [0u8; 16384];
     let mut list = [0u8; 30];
-    plan::compile(plan, &mut list);
-    vram::install(&mut mem, &list, 0);
+    let _ = plan::compile(plan, &mut list);
+    put(&mut mem, &list, 0);
     println!(rt; "{title}")?;
     lines::show(rt, &mem, 0, 1, 240)
 }

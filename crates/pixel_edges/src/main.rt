@@ -98,12 +98,17 @@ fn four<R: Print>(rt: &R, title: &str, settings: Settings, mem: &[u8]) -> io::Re
 // Over the top of memory stand 1F 80 03 00 0F 00; at 100 F0 1F; at 200 two characters with their attributes, and 64 characters behind the
 // first another with 85; characters 2, 3 and 128 have the font lines A1, 80 and 01.
 fn place(mem: &mut [u8], attribute: u8, other: u8) {
-    vram::install(mem, b"\x1F\x80\x03\x00\x0F\x00", 524286);
-    vram::install(mem, b"\xF0\x1F", 100);
-    vram::install(mem, &[2, attribute, 3, other], 200);
-    vram::install(mem, b"\x02\x85", 328);
-    vram::install(mem, b"\xA1\0\0\0\0\0\0\0\x80", 2067);
-    vram::install(mem, b"\x01", 3075);
+    let cells: [(u32, &[u8]); 6] = [
+        (524286, b"\x1F\x80\x03\x00\x0F\x00"),
+        (100, b"\xF0\x1F"),
+        (200, &[2, attribute, 3, other]),
+        (328, b"\x02\x85"),
+        (2067, b"\xA1\0\0\0\0\0\0\0\x80"),
+        (3075, b"\x01"),
+    ];
+    for (at, bytes) in cells {
+        let _ = vram::install(mem, bytes, at);
+    }
 }
 
 fn modes<R: Print>(rt: &R, mem: &[u8]) -> io::Result<()> {
