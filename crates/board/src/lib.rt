@@ -91,16 +91,12 @@ impl Ports {
 fn blitter_write(blitter: Blitter, bladr: u32, offset: u32, value: u8) -> Blitter
     ensures { result ≡ blitter_written bladr offset value blitter }
 {
-    if offset == 0x53 {
-        if value % 2 == 1 {
-            return blitter.start(bladr);
-        }
-        return blitter.stop();
+    match offset {
+        0x53 if value % 2 == 1 => blitter.start(bladr),
+        0x53 => blitter.stop(),
+        0x54 => blitter.interrupts(value % 2 == 1),
+        _ => blitter,
     }
-    if offset == 0x54 {
-        return blitter.interrupts(value % 2 == 1);
-    }
-    blitter
 }
 
 impl Board {

@@ -3,7 +3,7 @@
 use super::{blitlist, flat};
 use block::Block;
 use board::Board;
-use boardtext::boards::{put, started, written};
+use boardtext::boards::{put, started};
 use boardtext::show;
 use std::io;
 
@@ -120,7 +120,7 @@ fn mode_7<R: Print>(rt: &R, mem: &mut [u8]) -> io::Result<()> {
         ..blitlist::plain(0x20, 0x19)
     };
     blitlist::lay(mem, 0, none);
-    let board = written(started(0), &[(0x54, 1)]);
+    let board = started(0).write(0x54, 1).state;
     blitlist::ran(rt, "mode 7, zoomed", board, mem, 100)?;
     Ok(())
 }

@@ -1,7 +1,7 @@
 // A pointer drawn in mode 5 and taken away by drawing it again (document 02, A13): where that is allowed, and where it is not.
 use super::blitlist;
 use block::Block;
-use boardtext::boards::{put, started, written};
+use boardtext::boards::{put, started};
 use boardtext::show;
 use std::io;
 
@@ -19,7 +19,7 @@ fn prepare(mem: &mut [u8], cells: &[u8], block: Block) {
 fn draw_twice<R: Print>(rt: &R, name: &str, mem: &mut [u8], at: u32) -> io::Result<()> {
     let board = blitlist::first(rt, name, mem, 100)?;
     show::cells(rt, mem, at)?;
-    blitlist::ran(rt, "again", written(board, &[(0x53, 1)]), mem, 100)?;
+    blitlist::ran(rt, "again", board.write(0x53, 1).state, mem, 100)?;
     show::cells(rt, mem, at)
 }
 

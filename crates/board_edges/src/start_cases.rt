@@ -2,7 +2,7 @@
 use super::blitlist;
 use block::Block;
 use board::Board;
-use boardtext::boards::{started, written};
+use boardtext::boards::started;
 use boardtext::{Shown, show};
 use std::io;
 
@@ -21,7 +21,7 @@ fn middle<R: Print>(rt: &R, name: &str, mem: &mut [u8]) -> io::Result<Board> {
 
 // A write, and how the board stands after it.
 fn writes<R: Print>(rt: &R, name: &str, board: Board, offset: u32, value: u8) -> io::Result<Board> {
-    let after = written(board, &[(offset, value)]);
+    let after = board.write(offset, value).state;
     println!(rt; "{name}{}", Shown(after.blitter))?;
     Ok(after)
 }
@@ -84,7 +84,7 @@ fn pair(mem: &mut [u8]) -> Board {
 
 // With IRQE the last block alone raises IRQF; IRQ_CONTROL takes it away.
 fn raised<R: Print>(rt: &R, mem: &mut [u8]) -> io::Result<()> {
-    let enabled = written(pair(mem), &[(0x54, 1)]);
+    let enabled = pair(mem).write(0x54, 1).state;
     let between = blitlist::ran(rt, "IRQE, first block", enabled, mem, 2)?;
     let end = blitlist::ran(rt, "IRQE, last block", between, mem, 2)?;
     writes(rt, "IRQ_CONTROL 01", end, 0x54, 1)?;

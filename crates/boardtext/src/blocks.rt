@@ -1,8 +1,13 @@
 // A block as the bytes of a list.
+ghost use Rattle.std.specs.Prelude.{◌≡◌};
+ghost use Rattle.boardtext.specs.Begun.{bytes_of};
+
 use block::Block;
 
 // The 21 bytes: six for the source and six for the destination, three for the size, three masks, and the rest.
-pub fn bytes(block: Block) -> [u8; 21] {
+pub fn bytes(block: Block) -> [u8; 21]
+    ensures { result ≡ bytes_of block }
+{
     let source = block.source;
     let dest = block.dest;
     [

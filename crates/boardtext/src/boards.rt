@@ -1,33 +1,43 @@
 // Boards and memories that the programs begin with.
+ghost use Rattle.std.specs.Prelude.{◌≡◌, ◌≤◌};
+ghost use Rattle.vram.specs.Install.{install_memory};
+ghost use Rattle.boardtext.specs.Begun.{addressed, pointed, started};
+
 use board::Board;
 
-// Bytes put into memory. What the programs put there is never refused.
-pub fn put(mem: &mut [u8], bytes: &[u8], at: u32) {
+// Bytes put into memory, which stays as it was where that is refused. What the programs put there never is.
+pub fn put(mem: &mut [u8], bytes: &[u8], at: u32)
+    ensures { mem.new ≡ install_memory mem.old bytes.now at }
+{
     let _ = vram::install(mem, bytes, at);
 }
 
-// A board with bytes written to its registers, one after the other.
-pub fn written(mut board: Board, bytes: &[(u32, u8)]) -> Board {
-    for &(offset, value) in bytes {
-        board = board.write(offset, value).state;
-    }
+// The three bytes of an address written to registers, from one on, the lowest first.
+fn addressed(board: Board, offset: u32, address: u32) -> Board
+    requires { offset ≤ 0x50 }
+    ensures { result ≡ addressed offset address board }
+{
     board
+        .write(offset, (address % 256) as u8)
+        .state
+        .write(offset + 1, (address / 256 % 256) as u8)
+        .state
+        .write(offset + 2, (address / 65536 % 256) as u8)
+        .state
 }
 
 // A new board with its XDL_ADR and VIDEO_CONTROL written.
-pub fn pointed(address: u32, video: u8) -> Board {
-    let [low, middle, high, _] = address.to_le_bytes();
-    written(
-        Board::new(),
-        &[(0x41, low), (0x42, middle), (0x43, high), (0x40, video)],
-    )
+pub fn pointed(address: u32, video: u8) -> Board
+    ensures { result ≡ pointed address video }
+{
+    addressed(Board::new(), 0x41, address)
+        .write(0x40, video)
+        .state
 }
 
 // A new board that is told to start its list at an address.
-pub fn started(address: u32) -> Board {
-    let [low, middle, high, _] = address.to_le_bytes();
-    written(
-        Board::new(),
-        &[(0x50, low), (0x51, middle), (0x52, high), (0x53, 1)],
-    )
+pub fn started(address: u32) -> Board
+    ensures { result ≡ started address }
+{
+    addressed(Board::new(), 0x50, address).write(0x53, 1).state
 }

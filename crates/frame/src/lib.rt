@@ -5,7 +5,6 @@ ghost use Rattle.refusal.specs.Sheet.{told};
 ghost use Rattle.frame.specs.Frame.{
   sound_frame,
   fetched,
-  advanced_reader,
   line_answer,
   line_frame,
   start_answer,
@@ -28,26 +27,16 @@ pub struct Frame {
 
 // The reader as its next line is shown.
 #[tactic(auto, unfolding(crate::specs::Frame::fetched))]
-fn fetch(mut reader: Reader, mem: &[u8]) -> Reader
-    ensures { result ≡ fetched mem.now reader }
+fn fetch(reader: &mut Reader, mem: &[u8])
+    ensures { reader.new ≡ fetched mem.now reader.old }
 {
     if 0 < reader.repeat {
         reader.repeat -= 1;
-        return reader;
-    }
-    if reader.ended {
+    } else if reader.ended {
         reader.settings = reader.settings.dark();
-        return reader;
+    } else {
+        *reader = reader.read(mem);
     }
-    reader.read(mem)
-}
-
-// After a line was shown.
-fn advance(mut reader: Reader) -> Reader
-    ensures { result ≡ advanced_reader reader }
-{
-    reader.settings = reader.settings.advance();
-    reader
 }
 
 impl Frame {
@@ -93,9 +82,10 @@ impl Frame {
         if !self.on {
             return Ok(Settings::new());
         }
-        let reader = fetch(self.reader, mem);
-        self.reader = advance(reader);
-        Ok(reader.settings)
+        fetch(&mut self.reader, mem);
+        let settings = self.reader.settings;
+        self.reader.settings = settings.advance();
+        Ok(settings)
     }
 
     // The next line of the frame: its settings, or a refusal with the frame as it was handed in.

@@ -5,7 +5,7 @@ ghost use Rattle.item.specs.Item.{number2, number3, full_at, running_at, sound_f
 
 use refusal::{Refusal, ask};
 
-// ItemKind 1, a full band, field by field as the plan has it.
+// Kind 1, a full band, field by field as the plan has it.
 #[derive(Clone, Copy)]
 pub struct Full {
     pub lines: u8,
@@ -27,7 +27,7 @@ pub struct Full {
     pub priority: u8,
 }
 
-// ItemKind 2, running on: all else runs on from above.
+// Kind 2, running on: all else runs on from above.
 #[derive(Clone, Copy)]
 pub struct Running {
     pub lines: u8,

@@ -20,7 +20,7 @@ use settings::Settings;
 use text::{Inks, Text};
 use vram::good_length;
 
-// One of three by the width. The two tables are matches: a lent constant would be a global, and the browser's module has none (docs/PROMISES.md).
+// One of three by the width.
 fn by_width(width: u8, narrow: u16, normal: u16, wide: u16) -> u16
     ensures { result ≡ get_or (narrow ∷ normal ∷ wide ∷ []) width 0 }
 {
@@ -32,7 +32,8 @@ fn by_width(width: u8, narrow: u16, normal: u16, wide: u16) -> u16
     }
 }
 
-// The pixels of a line. None where the overlay is off.
+// The pixels of a line. None where the overlay is off. This table and the next are matches: a lent constant would be a global, and the
+// browser's module has none (docs/PROMISES.md).
 #[tactic(auto, using(crate::proofs::Counts::count_else), unfolding(crate::specs::Pixels::pixel_count))]
 fn count_of(mode: u8, width: u8) -> u16
     ensures { result ≡ pixel_count mode width }

@@ -5,13 +5,14 @@ ghost use Rattle.std.specs.Prelude.{◌≡◌, ◌<◌, ◌≤◌, ◌*◌, ◌%
 ghost use Rattle.std.specs.Fn.{FnReturnsAt};
 ghost use Rattle.words.specs.Words.{SameWords, within, laid};
 
-// A word as a byte, and as 16 bits.
+// A word as a byte.
 pub fn byte(word: u32) -> u8
     ensures { result ≡ word % 256 }
 {
     (word % 256) as u8
 }
 
+// A word as 16 bits.
 pub fn half(word: u32) -> u16
     ensures { result ≡ word % 65536 }
 {
@@ -19,14 +20,14 @@ pub fn half(word: u32) -> u16
 }
 
 // The test of the words that are there, n of them. The loop asks for no bound: the compiler takes many words a step.
-// By index, here and in `lay`: a slice's iterator hands out pointers, which the page in a browser does not allow for (docs/PROMISES.md).
+// By index, here and in `lay`: an iterator over two slices hands out pairs of pointers, which the page in a browser does not allow for (docs/PROMISES.md).
 fn there_within(words: &[u32], most: &[u32], n: usize) -> bool
     requires { n ≡ min (length words.now) (length most.now) }
     ensures { result ≡ within most.now words.now 0 }
 {
     let mut all = true;
     for i in 0..n {
-        all = all & (words[i] <= most[i]);
+        all &= words[i] <= most[i];
     }
     all
 }

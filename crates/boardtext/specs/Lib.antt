@@ -1,0 +1,2 @@
+-- What the programs begin with.
+pub mod Begun
