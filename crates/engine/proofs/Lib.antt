@@ -13,3 +13,4 @@ pub mod Whole
 pub mod Bytes
 pub mod Pieces
 pub mod Once
+pub mod Answer

@@ -57,6 +57,9 @@ module _ (mem : List ℕ) (f : Frame) where
   pub line_board : good_length (length mem) ≡ false → (line_answer f mem ≡ refused 1 0) × (line_frame f mem ≡ f)
   line_board g = (simp g, simp g)
 
+  pub line_state : good_length (length mem) ≡ true → sound_frame f ≡ false → (line_answer f mem ≡ refused 15 0) × (line_frame f mem ≡ f)
+  line_state g s = (simp (g, s), simp (g, s))
+
   module _ (g : good_length (length mem) ≡ true) (s : sound_frame f ≡ true) where
     pub line_over : 240 ≤ f.line → (line_answer f mem ≡ refused 4 0) × (line_frame f mem ≡ f)
     line_over h = (simp (g, s, le-ltb _ _ h), simp (g, s, le-ltb _ _ h))
