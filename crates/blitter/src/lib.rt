@@ -8,6 +8,7 @@ use vram::Vram;
 
 // The blitter between two ticks: the interrupt's enable and request, the list address, the flags
 // (0 idle, 1 BCB_LOAD, 2 BUSY), what collisions left, the block being done, and the position in it.
+// The flags are a number: a state with other flags can be handed in, and is refused.
 #[derive(Clone, Copy, Debug, PartialEq, Eq, Default)]
 pub struct Blitter {
     pub irqe: bool,

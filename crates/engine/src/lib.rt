@@ -325,7 +325,7 @@ impl Sofar {
     }
 }
 
-// Ticks until the budget is used or the flags are 0: loads, and bursts over one block each.
+// Ticks until the budget is used or the flags are 0: loads, and bursts over one block each. A turn goes on by as many ticks as it did.
 fn run_for(blitter: Blitter, mem: &mut [u8], budget: u32) -> Sofar
     requires { (good_length (length mem.old) ≡ true) × (sound_blitter blitter ≡ true) × (budget ≤ 1000000) }
     ensures run { so_far result mem.new ≡ run_for budget (begun blitter mem.old) }

@@ -68,7 +68,7 @@ enum ItemKind {
     Running,
 }
 
-// Two bytes, low first.
+// Two bytes, low first. All bits count, where `vram` cuts the last byte to those that the card has.
 fn number_2(plan: &[u8], at: usize) -> u16
     requires { at + 2 ≤ length plan.now }
     ensures { result ≡ number2 plan.now at }

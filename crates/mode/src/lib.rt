@@ -29,7 +29,7 @@ fn over_byte(s: u8, d: u8) -> u8
     over_nibble(s / 16, d / 16) * 16 + over_nibble(s % 16, d % 16)
 }
 
-// The columns of the mode table. Mode 7 does nothing.
+// The columns of the mode table. Mode 7 does nothing. A mode is a number, since each column answers for every byte.
 #[tactic(auto, unfolding(crate::specs::Mode::value_in))]
 pub fn value(mode: u8, s: u8, d: u8) -> u8
     ensures { result ≡ value_in mode s d }

@@ -61,7 +61,8 @@ fn end_bit(last: bool) -> u8
     if last { 128 } else { 0 }
 }
 
-// Bytes laid at the start of what is lent; how many they are.
+// Bytes laid at the start of what is lent; how many they are. By index: over two slices an iterator hands out pairs of pointers, which the
+// page in a browser does not allow for (docs/PROMISES.md).
 fn copy(bytes: &[u8], out: &mut [u8]) -> usize
     requires { length bytes.now ≤ length out.old }
     ensures count { result ≡ length bytes.now }
@@ -150,7 +151,7 @@ fn read_at(plan: &[u8], at: usize, n: u32, total: u8) -> Result<ItemRead, ItemRe
     item::item_at(plan, at, n, total).map_err(|why| ItemRefusal { why, item: n })
 }
 
-// The first pass goes over the whole plan and writes nothing: how many bytes the list has, or the refusal.
+// The first pass goes over the whole plan and writes nothing: how many bytes the list has, or the refusal. A turn goes on by an item's length.
 fn check(plan: &[u8]) -> Result<usize, ItemRefusal>
     ensures { result ≡ checked_of (parse plan.now) }
 {

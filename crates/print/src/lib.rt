@@ -17,7 +17,8 @@ impl fmt::Display for HexBytes<'_> {
     }
 }
 
-// A refusal as the desk prints it, with the item of a plan that it is of.
+// A refusal as the desk prints it, with the item of a plan that it is of. Its fields are those of `plan::ItemRefusal`, which programs without
+// plans do not know.
 #[derive(Clone, Copy)]
 pub struct RefusalLine {
     pub why: Refusal,

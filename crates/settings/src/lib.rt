@@ -14,6 +14,7 @@ ghost use Rattle.settings.specs.Settings.{
 };
 
 // The overlay: mode 0 off, 1 text, 2 SR, 3 HR, 4 LR; the address and step of its data; the text counter.
+// The mode is a number: a state with another one can be handed in, and is refused.
 #[derive(Clone, Copy, Debug, Default, PartialEq, Eq)]
 pub struct Overlay {
     pub mode: u8,
@@ -47,7 +48,8 @@ pub struct Look {
     pub priority: u8,
 }
 
-// The settings of one scanline, and its origin: the address of the record last read for it, or NO_RECORD.
+// The settings of one scanline, and its origin: the address of the record last read for it, or NO_RECORD, which is a number since C and
+// document 02 have it so.
 #[derive(Clone, Copy, Debug, PartialEq, Eq)]
 pub struct Settings {
     pub overlay: Overlay,
@@ -107,7 +109,8 @@ impl Map {
             && self.counter < self.height
     }
 
-    // A field has `height` lines. Counted in 16 bits, so that the sum fits whatever the counter is.
+    // A field has `height` lines. Counted in 16 bits, so that the sum fits whatever the counter is. Its turn and its switch are not the
+    // overlay's, so the two advances share no text.
     #[tactic(auto, unfolding(crate::specs::Settings::advanced_map))]
     fn advance(mut self) -> Self
         ensures { result ≡ advanced_map self }
