@@ -230,7 +230,7 @@ impl Board {
     }
 
     // One tick: refused 1 and 15 in that order. It is the run with a budget of 1.
-    pub fn tick(self, mem: &mut [u8]) -> After<Board, Counts>
+    pub fn tick(mut self, mem: &mut [u8]) -> After<Board, Counts>
         ensures report { told result.report ≡ tick_answer self mem.old }
         ensures board { result.state ≡ tick_board self mem.old }
         ensures memory { mem.new ≡ tick_mem self mem.old }

@@ -50,12 +50,7 @@ impl Frame {
     {
         ask(board.sound(), Refusal::State)?;
         Ok(Frame {
-            reader: Reader {
-                settings: Settings::new(),
-                position: board.ports.xdladr,
-                repeat: 0,
-                ended: false,
-            },
+            reader: Reader::new(board.ports.xdladr),
             line: 0,
             on: board.ports.video % 2 == 1,
         })

@@ -1,11 +1,16 @@
 -- The same reader further on in the list, with other settings.
-use Rattle.std.specs.Prelude.{Bool, ℕ, ◌+◌, ◌%◌}
+use Rattle.std.specs.Prelude.{Bool, false, ℕ, ◌+◌, ◌%◌}
 use Rattle.settings.specs.Parts.{with_overlay, with_map, with_look}
+use Rattle.settings.specs.Settings.{beginning}
 use Rattle.settings.specs.declared.Settings.{Settings}
 use Rattle.settings.specs.declared.Overlay.{Overlay}
 use Rattle.settings.specs.declared.Map.{Map}
 use Rattle.settings.specs.declared.Look.{Look}
 use Rattle.record.specs.declared.Reader.{Reader}
+
+-- a reader as a frame begins with it, at a place of the list: no line more, and not ended
+abbrev pub begun_at : ℕ → Reader
+begun_at position = record { settings = beginning; position = position; repeat = 0; ended = false }
 
 -- a reader n bytes further on, with other settings
 abbrev pub read_on : ℕ → Settings → Reader → Reader

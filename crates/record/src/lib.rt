@@ -2,7 +2,7 @@
 
 ghost use Rattle.std.specs.Prelude.{◌≡◌, ◌%◌, ◌<◌};
 ghost use Rattle.laws.specs.Bit.{bit};
-ghost use Rattle.record.specs.Parts.{read_on};
+ghost use Rattle.record.specs.Parts.{begun_at, read_on};
 ghost use Rattle.record.specs.Record.{
   pixel_mode,
   overlay_mode,
@@ -37,6 +37,20 @@ pub struct Reader {
     pub position: u32,
     pub repeat: u8,
     pub ended: bool,
+}
+
+impl Reader {
+    // A reader that begins: with the settings that a frame begins with, at a place of the display list, no line more, and not ended.
+    pub fn new(position: u32) -> Self
+        ensures { result ≡ begun_at position }
+    {
+        Reader {
+            settings: Settings::new(),
+            position,
+            repeat: 0,
+            ended: false,
+        }
+    }
 }
 
 // Whether bit k of v is set.

@@ -68,10 +68,8 @@ fn pour(mem: &mut [u8], list: &[u8], address: u32)
     ensures { mem.new ≡ poured (length mem.old) mem.old address list.now }
 {
     let n = mem.len();
-    let mut at = address as usize;
-    for v in list {
-        mem[at % 524288 % n] = *v;
-        at += 1;
+    for i in 0..list.len() {
+        mem[(address as usize + i) % 524288 % n] = list[i];
     }
 }
 
