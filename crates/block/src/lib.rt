@@ -90,7 +90,7 @@ impl Block {
     fn width(self) -> u16
         ensures { result ≡ width_of self }
     {
-        self.width0 as u16 + 256 * (self.width1 as u16 % 2) + 1
+        u16::from_le_bytes([self.width0, self.width1 % 2]) + 1
     }
 
     // How many destination columns show one source column.

@@ -33,9 +33,7 @@ pub struct Board {
 fn byte_set(address: u32, k: u32, value: u8) -> u32
     ensures { result ≡ byte_set address k value }
 {
-    let low = (address % 256) as u8;
-    let middle = (address / 256 % 256) as u8;
-    let high = (address / 65536 % 8) as u8;
+    let [low, middle, high, _] = address.to_le_bytes();
     match k {
         0 => vram::number_19(value, middle, high),
         1 => vram::number_19(low, value, high),

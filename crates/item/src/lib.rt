@@ -73,7 +73,7 @@ fn number_2(plan: &[u8], at: usize) -> u16
     requires { at + 2 ≤ length plan.now }
     ensures { result ≡ number2 plan.now at }
 {
-    plan[at] as u16 + 256 * (plan[at + 1] as u16)
+    u16::from_le_bytes([plan[at], plan[at + 1]])
 }
 
 // Three bytes, low first.
@@ -81,7 +81,7 @@ fn number_3(plan: &[u8], at: usize) -> u32
     requires { at + 3 ≤ length plan.now }
     ensures { result ≡ number3 plan.now at }
 {
-    number_2(plan, at) as u32 + 65536 * (plan[at + 2] as u32)
+    u32::from_le_bytes([plan[at], plan[at + 1], plan[at + 2], 0])
 }
 
 // The 23 bytes of a full band's body.

@@ -79,23 +79,27 @@ fn write_full(out: &mut [u8], b: Full, last: bool) -> usize
     requires { (22 ≤ length out.old) × (sound_full b ≡ true) }
     ensures { (result ≡ 22) × (out.new ≡ full_record b last ++ drop 22 out.old) }
 {
+    let address = b.address.to_le_bytes();
+    let step = b.step.to_le_bytes();
+    let mapaddress = b.mapaddress.to_le_bytes();
+    let mapstep = b.mapstep.to_le_bytes();
     let bytes = [
         224 + overlay_bit(b.mode) + map_bit(b.map),
         15 + resolution_bit(b.mode) + end_bit(last),
         b.lines - 1,
-        (b.address % 256) as u8,
-        (b.address / 256 % 256) as u8,
-        (b.address / 65536 % 256) as u8,
-        (b.step % 256) as u8,
-        (b.step / 256 % 256) as u8,
+        address[0],
+        address[1],
+        address[2],
+        step[0],
+        step[1],
         b.hscroll,
         b.vscroll,
         b.font,
-        (b.mapaddress % 256) as u8,
-        (b.mapaddress / 256 % 256) as u8,
-        (b.mapaddress / 65536 % 256) as u8,
-        (b.mapstep % 256) as u8,
-        (b.mapstep / 256 % 256) as u8,
+        mapaddress[0],
+        mapaddress[1],
+        mapaddress[2],
+        mapstep[0],
+        mapstep[1],
         b.maphscroll,
         b.mapvscroll,
         b.fieldwidth - 1,

@@ -27,7 +27,7 @@ pub fn step_x(x: u8) -> i32
 pub fn step_y(low: u8, high: u8) -> i32
     ensures { result ≡ step_y low high }
 {
-    let bits = low as i32 + 256 * (high as i32 % 32);
+    let bits = i32::from(u16::from_le_bytes([low, high % 32]));
     if bits < 4096 { bits } else { bits - 8192 }
 }
 

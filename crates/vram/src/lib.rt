@@ -52,14 +52,14 @@ pub fn byte_at(mem: &[u8], address: u32, offset: u8) -> u8
 pub fn number_12(low: u8, high: u8) -> u16
     ensures { result ≡ number12 low high }
 {
-    low as u16 + 256 * (high as u16 % 16)
+    u16::from_le_bytes([low, high % 16])
 }
 
 // The 19 bits of an address: two bytes and three bits of the third.
 pub fn number_19(low: u8, middle: u8, high: u8) -> u32
     ensures { result ≡ number19 low middle high }
 {
-    low as u32 + 256 * (middle as u32) + 65536 * (high as u32 % 8)
+    u32::from_le_bytes([low, middle, high % 8, 0])
 }
 
 // Writes the bytes of the list from the address on.
