@@ -201,7 +201,7 @@ impl Board {
     }
 
     // A run; where it is refused board and memory are as they were.
-    #[tactic(auto, unfolding(crate::specs::Board::run_answer, crate::specs::Board::run_board, crate::specs::Board::run_memory, crate::specs::Board::sound_board))]
+    #[tactic(auto, using(crate::proofs::Answer::as_blitter), unfolding(crate::specs::Board::run_answer, crate::specs::Board::run_board, crate::specs::Board::run_memory, crate::specs::Board::sound_board))]
     fn ran(&mut self, mem: &mut [u8], budget: u32) -> Result<Counts, Refusal>
         ensures report { told result ≡ run_answer self.old mem.old budget }
         ensures board { self.new ≡ run_board self.old mem.old budget }
@@ -228,6 +228,7 @@ impl Board {
     }
 
     // One tick: refused 1 and 15 in that order. It is the run with a budget of 1.
+    #[tactic(auto, using(crate::proofs::Answer::tick_answer_lem, crate::proofs::Answer::tick_board_lem, crate::proofs::Answer::tick_memory_lem))]
     pub fn tick(mut self, mem: &mut [u8]) -> After<Board, Counts>
         ensures report { told result.report ≡ tick_answer self mem.old }
         ensures board { result.state ≡ tick_board self mem.old }

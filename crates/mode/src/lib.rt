@@ -85,6 +85,7 @@ fn accesses(mode: u8, mask: u8, s: u8) -> u8
 
 // The manual's collision_sr, line by line: the eight ranges of 32 colours, and the mask's bit for each. The
 // first begins at 1, where the manual's text says 0-31: 0 is transparent, no object's colour, so it meets nothing.
+#[tactic(auto, using(crate::proofs::Ranges::in_range))]
 fn collision_sr(mask: u8, d: u8) -> bool
     ensures { result ≡ (not (eqb d 0) && bit mask (d / 32)) }
 {
@@ -102,6 +103,7 @@ fn collision_sr(mask: u8, d: u8) -> bool
 }
 
 // The manual's collision_hr: the same for the eight pairs of a nibble's 16 colours. The first is 1 alone.
+#[tactic(auto, using(crate::proofs::Ranges::in_range))]
 fn collision_hr(mask: u8, d: u8) -> bool
     requires { d < 16 }
     ensures { result ≡ (not (eqb d 0) && bit mask (d / 2)) }

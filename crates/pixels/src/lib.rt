@@ -119,7 +119,7 @@ fn fill(mem: &[u8], video: u8, settings: Settings, line: &mut [u16], count: usiz
 }
 
 // Draws one line: fills the entries of a lent line from its first on, and tells how many. Those past them stay.
-#[tactic(auto, unfolding(crate::specs::Draw::draw_answer))]
+#[tactic(auto, using(crate::proofs::Answer::draw_short), unfolding(crate::specs::Draw::draw_answer))]
 pub fn draw(board: Board, settings: Settings, mem: &[u8], line: &mut [u16]) -> Result<u16, Refusal>
     ensures answer { told result ≡ draw_answer board settings mem.now (length line.old) }
     ensures line { line.new ≡ draw_output board settings mem.now line.old }

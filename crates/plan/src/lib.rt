@@ -75,6 +75,7 @@ fn copy(bytes: &[u8], out: &mut [u8]) -> usize
 }
 
 // A kind 1 record: all seven data groups, in the manual's fetch order.
+#[tactic(auto, using(item::proofs::Ranges::full_fits), unfolding(crate::specs::Xdl::full_record))]
 fn write_full(out: &mut [u8], b: Full, last: bool) -> usize
     requires { (22 ≤ length out.old) × (sound_full b ≡ true) }
     ensures { (result ≡ 22) × (out.new ≡ full_record b last ++ drop 22 out.old) }
@@ -111,6 +112,7 @@ fn write_full(out: &mut [u8], b: Full, last: bool) -> usize
 }
 
 // A kind 2 record: RPTL, OVSCRL, CHBASE and OVATT.
+#[tactic(auto, using(item::proofs::Ranges::running_fits), unfolding(crate::specs::Xdl::running_record))]
 fn write_running(out: &mut [u8], b: Running, last: bool) -> usize
     requires { (8 ≤ length out.old) × (sound_running b ≡ true) }
     ensures { (result ≡ 8) × (out.new ≡ running_record b last ++ drop 8 out.old) }
