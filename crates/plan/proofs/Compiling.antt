@@ -1,50 +1,27 @@
 -- What compiling tells and writes, from what the two passes do; what is known where it is done. Assumes nothing.
 use mathlib.Core.Path.{◌≡◌, refl, ap}
 use mathlib.Core.List.{List, ◌++◌}
-use Prim.Native.Nat.{ℕ, ◌≤◌, ◌<◌}
+use Prim.Native.Nat.{ℕ, ◌≤◌}
 use native.Mathlib.Omega.{arith}
 use lib.Dec.{leb}
 use lib.ListN.{length, drop}
-use borrow.Author.Tests.{le-leb, lt-leb, leb-true}
-use Rattle.std.specs.Prelude.{Result, Ok, Err}
+use borrow.Author.Tests.{le-leb, leb-true}
+use Rattle.std.specs.Prelude.{Ok}
 use Rattle.refusal.specs.Sheet.{done}
-use Rattle.refusal.specs.declared.Refusal.{Refusal}
-use Rattle.refusal.specs.declared.Refusal.TheVariants.{Room}
 use Rattle.refusal.proofs.Sheet.{passed, refused_done}
 use Rattle.plan.specs.Plan.{Parsed, good, bad, parse, items_of}
 use Rattle.plan.specs.Xdl.{bytes_of, xdl_bytes}
-use Rattle.plan.specs.Compile.{at_item, compile_told, checked_of, fitting, compile_answer, compile_output}
-use Rattle.plan.specs.declared.ItemRefusal.{ItemRefusal}
+use Rattle.plan.specs.Compile.{compile_told, checked_of, fitting, compile_answer, compile_output}
 use Rattle.plan.proofs.Valid.{xdl_at_most}
 
--- a call's two clauses
-abbrev Is : List ℕ → List ℕ → List ℕ → Result ℕ ItemRefusal → Type 0
-Is plan out out' r = (compile_told r ≡ compile_answer plan (length out)) × (out' ≡ compile_output plan out)
+-- the first pass done, the second may begin
+checked : (b : ℕ) (p : Parsed) → checked_of p ≡ Ok b → (p ≡ good (items_of p)) × (length (bytes_of (items_of p)) ≡ b)
+checked b (good l) c = (refl, cc)
+checked b (bad why n) c = refused_done (ap compile_told c)
 
-module _ (plan out : List ℕ) where
-  -- a refusal of the first pass
-  pub compile_refused : (why : Refusal) (n : ℕ) → checked_of (parse plan) ≡ Err (at_item why n) → Is plan out out (Err (at_item why n))
-  unfolding compile_answer compile_output
-  compile_refused why n e = simp e (refl, refl)
-
-  module _ (b : ℕ) (e : checked_of (parse plan) ≡ Ok b) where
-    pub compile_room : length out < b → Is plan out out (Err (at_item Room 0))
-    unfolding compile_answer compile_output
-    compile_room h = simp (e, lt-leb b (length out) h) (refl, refl)
-
-    checked : (p : Parsed) → checked_of p ≡ Ok b → (p ≡ good (items_of p)) × (length (bytes_of (items_of p)) ≡ b)
-    checked (good l) c = (refl, cc)
-    checked (bad why n) c = refused_done (ap compile_told c)
-
-    -- the second pass may begin
-    pub write_may_begin : b ≤ length out → (parse plan ≡ good (items_of (parse plan))) × (length (xdl_bytes plan) ≤ length out)
-    unfolding xdl_bytes
-    write_may_begin h = let g = checked (parse plan) e in (g.0, omega arith)
-
-    pub compile_done :
-        (out' : List ℕ) → b ≤ length out → out' ≡ xdl_bytes plan ++ drop (length (xdl_bytes plan)) out → Is plan out out' (Ok b)
-    unfolding compile_answer compile_output
-    compile_done out' h w = simp (e, le-leb b (length out) h) (refl, w)
+pub write_may_begin : (plan out : List ℕ) (b : ℕ) → checked_of (parse plan) ≡ Ok b → b ≤ length out → (parse plan ≡ good (items_of (parse plan))) × (length (xdl_bytes plan) ≤ length out)
+unfolding xdl_bytes
+write_may_begin plan out b e h = let g = checked b (parse plan) e in (g.0, omega arith)
 
 -- what is known of a plan that was compiled into k bytes of so much room
 taken_in : (plan : List ℕ) (room k : ℕ) → compile_answer plan room ≡ done k → (parse plan ≡ good (items_of (parse plan))) × ((length (xdl_bytes plan) ≡ k) × (k ≤ room))

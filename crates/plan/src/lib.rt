@@ -158,6 +158,7 @@ fn read_at(plan: &[u8], at: usize, n: u32, total: u8) -> Result<ItemRead, ItemRe
 }
 
 // The first pass goes over the whole plan and writes nothing: how many bytes the list has, or the refusal. A turn goes on by an item's length.
+#[tactic(auto, using(crate::proofs::Checking::check_bad, crate::proofs::Checking::check_end, crate::proofs::Walk::parse_none, crate::proofs::Walk::parse_rest))]
 fn check(plan: &[u8]) -> Result<usize, ItemRefusal>
     ensures { result ≡ checked_of (parse plan.now) }
 {
@@ -194,6 +195,7 @@ fn write_all(plan: &[u8], out: &mut [u8])
 }
 
 // A plan's display list into the output; bytes past it stay. A refusal writes nothing.
+#[tactic(auto, using(crate::proofs::Compiling::write_may_begin), unfolding(crate::specs::Compile::compile_answer, crate::specs::Compile::compile_output))]
 pub fn compile(plan: &[u8], out: &mut [u8]) -> Result<usize, ItemRefusal>
     ensures answer { compile_told result ≡ compile_answer plan.now (length out.old) }
     ensures output { out.new ≡ compile_output plan.now out.old }
