@@ -78,13 +78,9 @@ fn shown<R: Print>(rt: &R, mem: &mut [u8], case: &Case) -> io::Result<()> {
     }
 }
 
-fn small<R: Print>(rt: &R, case: &Case) -> io::Result<()> {
-    let mut mem = [0u8; 16384];
-    shown(rt, &mut mem, case)
-}
-
-fn large<R: Print>(rt: &R, case: &Case) -> io::Result<()> {
-    let mut mem = [0u8; 524288];
+// In a memory of a size.
+fn sized<const N: usize, R: Print>(rt: &R, case: &Case) -> io::Result<()> {
+    let mut mem = [0u8; N];
     shown(rt, &mut mem, case)
 }
 
@@ -92,9 +88,9 @@ fn large<R: Print>(rt: &R, case: &Case) -> io::Result<()> {
 fn each<R: Print>(rt: &R, cases: &[Case]) -> io::Result<()> {
     for case in cases {
         if case.large {
-            large(rt, case)?;
+            sized::<524288, R>(rt, case)?;
         } else {
-            small(rt, case)?;
+            sized::<16384, R>(rt, case)?;
         }
     }
     Ok(())
