@@ -1,5 +1,7 @@
 // Display lists. A case names itself and its list; under it stand the lines of the frame, those that are all alike as one,
 // and the frame that is left.
+ghost use Rattle.std.specs.Prelude.{◌≤◌};
+
 use boardtext::lines;
 use print::{HexBytes, RefusalLine};
 use std::io;
@@ -78,8 +80,10 @@ fn shown<R: Print>(rt: &R, mem: &mut [u8], case: &Case) -> io::Result<()> {
     }
 }
 
-// In a memory of a size.
-fn sized<const N: usize, R: Print>(rt: &R, case: &Case) -> io::Result<()> {
+// In a memory of N bytes, the largest at most.
+fn sized<const N: usize, R: Print>(rt: &R, case: &Case) -> io::Result<()>
+    requires { N ≤ 524288 }
+{
     let mut mem = [0u8; N];
     shown(rt, &mut mem, case)
 }

@@ -141,8 +141,14 @@ fn unsound_overlay<R: Print>(rt: &R) -> io::Result<()> {
     let top = highest().reader.settings;
     for (title, settings) in [
         ("Mode 5: ", changed(top, |s| s.overlay.mode = 5)),
-        ("Overlay address 524,288: ", changed(top, |s| s.overlay.address = 524288)),
-        ("Overlay step 4,096: ", changed(top, |s| s.overlay.step = 4096)),
+        (
+            "Overlay address 524,288: ",
+            changed(top, |s| s.overlay.address = 524288),
+        ),
+        (
+            "Overlay step 4,096: ",
+            changed(top, |s| s.overlay.step = 4096),
+        ),
         ("hscroll 8: ", changed(top, |s| s.overlay.hscroll = 8)),
         ("vscroll 8: ", changed(top, |s| s.overlay.vscroll = 8)),
         ("Text counter 8: ", changed(top, |s| s.overlay.counter = 8)),
@@ -155,14 +161,20 @@ fn unsound_overlay<R: Print>(rt: &R) -> io::Result<()> {
 fn unsound_map<R: Print>(rt: &R) -> io::Result<()> {
     let top = highest().reader.settings;
     for (title, settings) in [
-        ("Map address 524,288: ", changed(top, |s| s.map.address = 524288)),
+        (
+            "Map address 524,288: ",
+            changed(top, |s| s.map.address = 524288),
+        ),
         ("Map step 4,096: ", changed(top, |s| s.map.step = 4096)),
         ("Map hscroll 32: ", changed(top, |s| s.map.hscroll = 32)),
         ("Map vscroll 32: ", changed(top, |s| s.map.vscroll = 32)),
         ("Field width 33: ", changed(top, |s| s.map.width = 33)),
         ("Field width 7: ", changed(top, |s| s.map.width = 7)),
         ("Field height 33: ", changed(top, |s| s.map.height = 33)),
-        ("Field counter 31 of 31: ", changed(top, |s| s.map.height = 31)),
+        (
+            "Field counter 31 of 31: ",
+            changed(top, |s| s.map.height = 31),
+        ),
     ] {
         ask_highest(rt, title, settings)?;
     }
@@ -185,7 +197,10 @@ fn unsound_rest<R: Print>(rt: &R) -> io::Result<()> {
     for (title, settings) in [
         ("Width 3: ", changed(top, |s| s.look.width = 3)),
         ("Overlay palette 4: ", changed(top, |s| s.look.palette = 4)),
-        ("Playfield palette 4: ", changed(top, |s| s.look.playfield = 4)),
+        (
+            "Playfield palette 4: ",
+            changed(top, |s| s.look.playfield = 4),
+        ),
         ("Record 524,289: ", changed(top, |s| s.origin = 524289)),
         ("Record 524,287:\n", changed(top, |s| s.origin = 524287)),
     ] {

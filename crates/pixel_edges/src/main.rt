@@ -186,7 +186,11 @@ fn refusals<R: Print>(rt: &R, mem: &[u8]) -> io::Result<()> {
     for (title, settings, room) in [
         ("Origin 524289", changed(sr, |s| s.origin = 524289), 320),
         ("Mode 5", changed(sr, |s| s.overlay.mode = 5), 680),
-        ("hscroll 8 in SR", changed(sr, |s| s.overlay.hscroll = 8), 680),
+        (
+            "hscroll 8 in SR",
+            changed(sr, |s| s.overlay.hscroll = 8),
+            680,
+        ),
     ] {
         drawn(rt, title, 0, settings, mem, room)?;
     }

@@ -156,7 +156,12 @@ fn ticks<R: Print>(rt: &R, name: &str, board: Board, mem: &mut [u8]) -> io::Resu
 
 // Ports out of their widths.
 fn wide_ports<R: Print>(rt: &R, mem: &mut [u8]) -> io::Result<()> {
-    calls(rt, "VIDEO_CONTROL 16", changed(Board::new(), |b| b.ports.video = 16), mem)?;
+    calls(
+        rt,
+        "VIDEO_CONTROL 16",
+        changed(Board::new(), |b| b.ports.video = 16),
+        mem,
+    )?;
     calls(
         rt,
         "XDL_ADR 524288",
@@ -216,5 +221,9 @@ fn main(rt: HostRuntime) -> io::Result<()> {
     wide_ports(&rt, &mut mem)?;
     unsound(&rt, &mut mem)?;
     sound(&rt, &mut mem)?;
-    all(&rt, "IRQF without IRQE", changed(Board::new(), |b| b.blitter.irqf = true))
+    all(
+        &rt,
+        "IRQF without IRQE",
+        changed(Board::new(), |b| b.blitter.irqf = true),
+    )
 }
