@@ -1,4 +1,4 @@
--- Each contract of this crate admits one outcome only. Assumes nothing.
+-- Each contract of this crate admits one outcome only; that of `changed` admits the outcomes of its closure. Assumes nothing.
 use mathlib.Core.Path.{sym, ◌∙◌}
 use Rattle.laws.proofs.Once.{OneAnswer, OneExit}
 use Rattle.boardtext.proofs.boards.put.Kinds as put_kinds

@@ -1,5 +1,6 @@
 // Boards and memories that the programs begin with.
 ghost use Rattle.std.specs.Prelude.{◌≡◌, ◌≤◌};
+ghost use Rattle.std.specs.Fn.{FnOnceReturnsAtMut};
 ghost use Rattle.vram.specs.Install.{install_memory};
 ghost use Rattle.boardtext.specs.Begun.{addressed, pointed, started};
 
@@ -40,4 +41,13 @@ pub fn started(address: u32) -> Board
     ensures { result ≡ started address }
 {
     addressed(Board::new(), 0x50, address).write(0x53, 1).state
+}
+
+// A state with something changed, as a closure says.
+pub fn changed<T: Copy, F: FnOnce(&mut T)>(mut state: T, change: F) -> T
+    requires { F.IsAlwaysCallable change }
+    ensures { FnOnceReturnsAtMut F.FnOnce change state tt result }
+{
+    change(&mut state);
+    state
 }

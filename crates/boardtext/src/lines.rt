@@ -10,28 +10,48 @@ use refusal::Refusal;
 use settings::Settings;
 use std::io;
 
-// The number of the item whose record is at an address: each item of a plan has one record, in the same order. It has 240 items
-// at most.
-fn item_of(mem: &[u8], list: u32, origin: u32) -> Option<u16> {
-    let mut reader = Reader {
-        settings: Settings::new(),
-        position: list,
-        repeat: 0,
-        ended: false,
-    };
-    for i in 0..Frame::LINES {
-        if reader.position == origin {
-            return Some(i);
-        }
-        reader = reader.read(mem);
-    }
-    None
+// A memory, and where a plan's list stands in it; none where lines are told without their items.
+#[derive(Clone, Copy)]
+struct Memory<'a> {
+    bytes: &'a [u8],
+    list: Option<u32>,
 }
 
-// A line or lines that are all alike, with the item that made them where they are of the plan's list at an address.
-fn tell<R: Print>(rt: &R, mem: &[u8], list: Option<u32>, lines: Lines) -> io::Result<()> {
+impl<'a> Memory<'a> {
+    fn bare(bytes: &'a [u8]) -> Self {
+        Memory { bytes, list: None }
+    }
+
+    fn listed(bytes: &'a [u8], at: u32) -> Self {
+        Memory {
+            bytes,
+            list: Some(at),
+        }
+    }
+
+    // The number of the item whose record is at an address: each item of a plan has one record, in the same order. It has 240 items
+    // at most.
+    fn item_of(self, origin: u32) -> Option<u16> {
+        let mut reader = Reader {
+            settings: Settings::new(),
+            position: self.list?,
+            repeat: 0,
+            ended: false,
+        };
+        for i in 0..Frame::LINES {
+            if reader.position == origin {
+                return Some(i);
+            }
+            reader = reader.read(self.bytes);
+        }
+        None
+    }
+}
+
+// A line or lines that are all alike, with the item that made them where the plan's list is known.
+fn tell<R: Print>(rt: &R, mem: Memory, lines: Lines) -> io::Result<()> {
     print!(rt; "{lines}")?;
-    if let Some(item) = list.and_then(|at| item_of(mem, at, lines.settings.origin)) {
+    if let Some(item) = mem.item_of(lines.settings.origin) {
         print!(rt; "; item {item}")?;
     }
     println!(rt)
@@ -63,23 +83,17 @@ fn next_is<F: FnOnce(Settings) -> bool>(frame: Frame, mem: &[u8], like: F) -> bo
 }
 
 // The next lines of a frame, those that are all alike as one, and the frame behind them. Lines of different records are not alike.
-fn joined<R: Print>(
-    rt: &R,
-    mut frame: Frame,
-    mem: &[u8],
-    list: Option<u32>,
-    count: u16,
-) -> io::Result<Frame> {
+fn joined<R: Print>(rt: &R, mut frame: Frame, mem: Memory, count: u16) -> io::Result<Frame> {
     let mut from = frame.line;
     for i in 0..count {
         let to = frame.line;
-        let next = frame.next_line(mem);
+        let next = frame.next_line(mem.bytes);
         frame = next.state;
         match next.report {
             Err(why) => refused(rt, to, why)?,
             Ok(settings) => {
-                if i + 1 == count || !next_is(frame, mem, |s| s == settings) {
-                    tell(rt, mem, list, Lines { from, to, settings })?;
+                if i + 1 == count || !next_is(frame, mem.bytes, |s| s == settings) {
+                    tell(rt, mem, Lines { from, to, settings })?;
                     from = frame.line;
                 }
             }
@@ -90,23 +104,23 @@ fn joined<R: Print>(
 
 // The same, and the frame printed.
 pub fn runs<R: Print>(rt: &R, frame: Frame, mem: &[u8], count: u16) -> io::Result<()> {
-    println!(rt; "{}", Shown(joined(rt, frame, mem, None, count)?))
+    println!(rt; "{}", Shown(joined(rt, frame, Memory::bare(mem), count)?))
 }
 
 // The 240 lines of a frame: those where a band begins or ends, and each ninth line, so that every counter is met.
-fn samples<R: Print>(rt: &R, mut frame: Frame, mem: &[u8], list: Option<u32>) -> io::Result<()> {
+fn samples<R: Print>(rt: &R, mut frame: Frame, mem: Memory) -> io::Result<()> {
     let mut before = Settings::new();
     for _ in 0..Frame::LINES {
         let line = frame.line;
-        let next = frame.next_line(mem);
+        let next = frame.next_line(mem.bytes);
         frame = next.state;
         match next.report {
             Err(why) => refused(rt, line, why)?,
             Ok(settings) => {
                 let first = still(before) != still(settings);
-                let last = !next_is(frame, mem, |s| still(s) == still(settings));
+                let last = !next_is(frame, mem.bytes, |s| still(s) == still(settings));
                 if first || last || line % 9 == 0 {
-                    tell(rt, mem, list, Lines::one(line, settings))?;
+                    tell(rt, mem, Lines::one(line, settings))?;
                 }
                 before = settings;
             }
@@ -130,7 +144,7 @@ pub fn ask<R: Print>(rt: &R, frame: Frame, mem: &[u8]) -> io::Result<()> {
             rt.println(RefusalLine::from(why))
         }
         Ok(settings) => {
-            tell(rt, mem, None, Lines::one(frame.line, settings))?;
+            tell(rt, Memory::bare(mem), Lines::one(frame.line, settings))?;
             println!(rt; "{}\nholds: {}", Shown(after), Shown(after.reader.settings))
         }
     }
@@ -164,7 +178,7 @@ pub fn show_bands<R: Print>(rt: &R, mem: &[u8], address: u32) -> io::Result<()> 
     begun(
         rt,
         pointed(address, 1),
-        |frame| samples(rt, frame, mem, Some(address)),
+        |frame| samples(rt, frame, Memory::listed(mem, address)),
     )
 }
 
@@ -185,7 +199,12 @@ pub fn show_joined<R: Print>(
     count: u16,
 ) -> io::Result<()> {
     begun(rt, pointed(address, 1), |frame| {
-        joined(rt, lines_on(frame, mem, from), mem, Some(address), count)?;
+        joined(
+            rt,
+            lines_on(frame, mem, from),
+            Memory::listed(mem, address),
+            count,
+        )?;
         Ok(())
     })
 }

@@ -30,12 +30,18 @@ impl fmt::Display for Shown<Ports> {
     }
 }
 
+impl fmt::Display for Shown<Refusal> {
+    fn fmt<W: fmt::Write>(&self, f: &mut fmt::Formatter<W>) -> fmt::Result {
+        write!(f, "refused {}", self.0.number())
+    }
+}
+
 // What a run reports.
 impl fmt::Display for Shown<Result<Counts, Refusal>> {
     fn fmt<W: fmt::Write>(&self, f: &mut fmt::Formatter<W>) -> fmt::Result {
         match self.0 {
             Ok(Counts { ticks, accesses }) => { write!(f, ": ticks {ticks} accesses {accesses}") }
-            Err(why) => write!(f, ": refused {}", why.number()),
+            Err(why) => write!(f, ": {}", Shown(why)),
         }
     }
 }
@@ -45,7 +51,7 @@ impl fmt::Display for Shown<Result<(), Refusal>> {
     fn fmt<W: fmt::Write>(&self, f: &mut fmt::Formatter<W>) -> fmt::Result {
         match self.0 {
             Ok(()) => f.write_str(" done"),
-            Err(why) => write!(f, " refused {}", why.number()),
+            Err(why) => write!(f, " {}", Shown(why)),
         }
     }
 }

@@ -1,5 +1,7 @@
 // Display lists. A case names itself and its list; under it stand the lines of the frame, those that are all alike as one,
 // and the frame that is left.
+ghost use Rattle.std.specs.Prelude.{◌≤◌};
+
 use boardtext::lines;
 use print::{HexBytes, RefusalLine};
 use std::io;
@@ -78,13 +80,11 @@ fn shown<R: Print>(rt: &R, mem: &mut [u8], case: &Case) -> io::Result<()> {
     }
 }
 
-fn small<R: Print>(rt: &R, case: &Case) -> io::Result<()> {
-    let mut mem = [0u8; 16384];
-    shown(rt, &mut mem, case)
-}
-
-fn large<R: Print>(rt: &R, case: &Case) -> io::Result<()> {
-    let mut mem = [0u8; 524288];
+// In a memory of N bytes, the largest at most.
+fn sized<const N: usize, R: Print>(rt: &R, case: &Case) -> io::Result<()>
+    requires { N ≤ 524288 }
+{
+    let mut mem = [0u8; N];
     shown(rt, &mut mem, case)
 }
 
@@ -92,9 +92,9 @@ fn large<R: Print>(rt: &R, case: &Case) -> io::Result<()> {
 fn each<R: Print>(rt: &R, cases: &[Case]) -> io::Result<()> {
     for case in cases {
         if case.large {
-            large(rt, case)?;
+            sized::<524288, R>(rt, case)?;
         } else {
-            small(rt, case)?;
+            sized::<16384, R>(rt, case)?;
         }
     }
     Ok(())

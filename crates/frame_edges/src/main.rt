@@ -5,6 +5,7 @@
 mod list_cases;
 
 use board::Board;
+use boardtext::boards::changed;
 use boardtext::lines;
 use frame::Frame;
 use record::Reader;
@@ -128,38 +129,56 @@ fn highest() -> Frame {
     }
 }
 
-// The highest with a setting changed.
-fn changed<R: Print, F: FnOnce(&mut Settings)>(rt: &R, title: &str, change: F) -> io::Result<()>
-    requires { F.IsAlwaysCallable change }
-{
+// The highest with other settings.
+fn ask_highest<R: Print>(rt: &R, title: &str, settings: Settings) -> io::Result<()> {
     let mut f = highest();
-    change(&mut f.reader.settings);
+    f.reader.settings = settings;
     ask(rt, title, f)
 }
 
 // One more than the highest.
 fn unsound_overlay<R: Print>(rt: &R) -> io::Result<()> {
-    changed(rt, "Mode 5: ", |s| s.overlay.mode = 5)?;
-    changed(
-        rt,
-        "Overlay address 524,288: ",
-        |s| s.overlay.address = 524288,
-    )?;
-    changed(rt, "Overlay step 4,096: ", |s| s.overlay.step = 4096)?;
-    changed(rt, "hscroll 8: ", |s| s.overlay.hscroll = 8)?;
-    changed(rt, "vscroll 8: ", |s| s.overlay.vscroll = 8)?;
-    changed(rt, "Text counter 8: ", |s| s.overlay.counter = 8)
+    let top = highest().reader.settings;
+    for (title, settings) in [
+        ("Mode 5: ", changed(top, |s| s.overlay.mode = 5)),
+        (
+            "Overlay address 524,288: ",
+            changed(top, |s| s.overlay.address = 524288),
+        ),
+        (
+            "Overlay step 4,096: ",
+            changed(top, |s| s.overlay.step = 4096),
+        ),
+        ("hscroll 8: ", changed(top, |s| s.overlay.hscroll = 8)),
+        ("vscroll 8: ", changed(top, |s| s.overlay.vscroll = 8)),
+        ("Text counter 8: ", changed(top, |s| s.overlay.counter = 8)),
+    ] {
+        ask_highest(rt, title, settings)?;
+    }
+    Ok(())
 }
 
 fn unsound_map<R: Print>(rt: &R) -> io::Result<()> {
-    changed(rt, "Map address 524,288: ", |s| s.map.address = 524288)?;
-    changed(rt, "Map step 4,096: ", |s| s.map.step = 4096)?;
-    changed(rt, "Map hscroll 32: ", |s| s.map.hscroll = 32)?;
-    changed(rt, "Map vscroll 32: ", |s| s.map.vscroll = 32)?;
-    changed(rt, "Field width 33: ", |s| s.map.width = 33)?;
-    changed(rt, "Field width 7: ", |s| s.map.width = 7)?;
-    changed(rt, "Field height 33: ", |s| s.map.height = 33)?;
-    changed(rt, "Field counter 31 of 31: ", |s| s.map.height = 31)
+    let top = highest().reader.settings;
+    for (title, settings) in [
+        (
+            "Map address 524,288: ",
+            changed(top, |s| s.map.address = 524288),
+        ),
+        ("Map step 4,096: ", changed(top, |s| s.map.step = 4096)),
+        ("Map hscroll 32: ", changed(top, |s| s.map.hscroll = 32)),
+        ("Map vscroll 32: ", changed(top, |s| s.map.vscroll = 32)),
+        ("Field width 33: ", changed(top, |s| s.map.width = 33)),
+        ("Field width 7: ", changed(top, |s| s.map.width = 7)),
+        ("Field height 33: ", changed(top, |s| s.map.height = 33)),
+        (
+            "Field counter 31 of 31: ",
+            changed(top, |s| s.map.height = 31),
+        ),
+    ] {
+        ask_highest(rt, title, settings)?;
+    }
+    Ok(())
 }
 
 fn unsound_counter<R: Print>(rt: &R) -> io::Result<()> {
@@ -174,14 +193,21 @@ fn unsound_counter<R: Print>(rt: &R) -> io::Result<()> {
 }
 
 fn unsound_rest<R: Print>(rt: &R) -> io::Result<()> {
-    changed(rt, "Width 3: ", |s| s.look.width = 3)?;
-    changed(rt, "Overlay palette 4: ", |s| s.look.palette = 4)?;
-    changed(rt, "Playfield palette 4: ", |s| s.look.playfield = 4)?;
-    changed(rt, "Record 524,289: ", |s| s.origin = 524289)?;
-    changed(rt, "Record 524,287:\n", |s| s.origin = 524287)?;
-    let mut f = highest();
-    f.reader.position = 524288;
-    ask(rt, "List position 524,288: ", f)
+    let top = highest().reader.settings;
+    for (title, settings) in [
+        ("Width 3: ", changed(top, |s| s.look.width = 3)),
+        ("Overlay palette 4: ", changed(top, |s| s.look.palette = 4)),
+        (
+            "Playfield palette 4: ",
+            changed(top, |s| s.look.playfield = 4),
+        ),
+        ("Record 524,289: ", changed(top, |s| s.origin = 524289)),
+        ("Record 524,287:\n", changed(top, |s| s.origin = 524287)),
+    ] {
+        ask_highest(rt, title, settings)?;
+    }
+    let position = changed(highest(), |f| f.reader.position = 524288);
+    ask(rt, "List position 524,288: ", position)
 }
 
 // The next line with the first bytes of a memory lent.

@@ -3,6 +3,7 @@
 #![tactic(auto)]
 
 use board::Board;
+use boardtext::boards::changed;
 use print::RefusalLine;
 use settings::Settings;
 use std::io;
@@ -174,41 +175,29 @@ fn rooms<R: Print>(rt: &R, mem: &[u8]) -> io::Result<()> {
     Ok(())
 }
 
-// SR with a setting changed.
-fn changed<R: Print, F: FnOnce(&mut Settings)>(
-    rt: &R,
-    title: &str,
-    change: F,
-    mem: &[u8],
-    room: usize,
-) -> io::Result<()>
-    requires { F.IsAlwaysCallable change }
-{
-    let mut s = picture(2, 1, 1, 0);
-    change(&mut s);
-    drawn(rt, title, 0, s, mem, room)
-}
-
 // 15 and 1, each where it begins to hold, and the order of all three.
 fn refusals<R: Print>(rt: &R, mem: &[u8]) -> io::Result<()> {
-    changed(
-        rt,
-        "Field counter 4 of 4",
-        |s| {
-            s.map.height = 4;
-            s.map.counter = 4;
-        },
-        mem,
-        319,
-    )?;
-    changed(rt, "Origin 524289", |s| s.origin = 524289, mem, 320)?;
-    changed(rt, "Mode 5", |s| s.overlay.mode = 5, mem, 680)?;
-    changed(rt, "hscroll 8 in SR", |s| s.overlay.hscroll = 8, mem, 680)?;
-    let s = picture(2, 1, 1, 0);
-    drawn(rt, "VIDEO_CONTROL 16", 16, s, mem, 319)?;
-    drawn(rt, "VIDEO_CONTROL 15", 15, s, mem, 680)?;
+    let sr = picture(2, 1, 1, 0);
+    let field = changed(sr, |s| {
+        s.map.height = 4;
+        s.map.counter = 4;
+    });
+    drawn(rt, "Field counter 4 of 4", 0, field, mem, 319)?;
+    for (title, settings, room) in [
+        ("Origin 524289", changed(sr, |s| s.origin = 524289), 320),
+        ("Mode 5", changed(sr, |s| s.overlay.mode = 5), 680),
+        (
+            "hscroll 8 in SR",
+            changed(sr, |s| s.overlay.hscroll = 8),
+            680,
+        ),
+    ] {
+        drawn(rt, title, 0, settings, mem, room)?;
+    }
+    drawn(rt, "VIDEO_CONTROL 16", 16, sr, mem, 319)?;
+    drawn(rt, "VIDEO_CONTROL 15", 15, sr, mem, 680)?;
     if let Some(short) = mem.get(..16383) {
-        drawn(rt, "Memory of 16383, VIDEO_CONTROL 16", 16, s, short, 319)?;
+        drawn(rt, "Memory of 16383, VIDEO_CONTROL 16", 16, sr, short, 319)?;
     }
     Ok(())
 }

@@ -122,7 +122,7 @@ fn shown<R: Print, F: FnOnce(&[u8]) -> io::Result<()>>(
 ) -> io::Result<()>
     requires { F.IsAlwaysCallable show }
 {
-    let mut list = [0u8; 5280];
+    let mut list = [0u8; Vram::INSTALLED];
     let Some(n) = plantext::compiled(plan, &mut list, rt) else {
         return Ok(());
     };
@@ -139,12 +139,10 @@ fn bands_of<R: Env + Files + Input + Print, E: Print>(
     i: usize,
 ) -> io::Result<()> {
     let rt = host.rt;
-    let mut plan = [0u8; 8192];
-    let Some(n) = host.read_plan(i, &mut plan) else {
-        return Ok(());
-    };
-    host.print_name(i, b"\n")?;
-    shown(rt, &plan[..n], TOP, |mem| lines::show_bands(rt, mem, TOP))
+    host.with_plan(i, |plan| {
+        host.print_name(i, b"\n")?;
+        shown(rt, plan, TOP, |mem| lines::show_bands(rt, mem, TOP))
+    })
 }
 
 fn bands<R: Env + Files + Input + Print, E: Print>(host: &Host<R, E>) -> io::Result<()> {
@@ -165,13 +163,11 @@ fn joined<R: Env + Files + Input + Print, E: Print>(
 ) -> io::Result<()> {
     let rt = host.rt;
     let Wanted { at, from, count } = asked;
-    let mut plan = [0u8; 8192];
-    match host.read_plan(1, &mut plan) {
-        Some(n) => shown(rt, &plan[..n], at, |mem| {
+    host.with_plan(1, |plan| {
+        shown(rt, plan, at, |mem| {
             lines::show_joined(rt, mem, at, from, count)
-        }),
-        None => Ok(()),
-    }
+        })
+    })
 }
 
 fn main(rt: HostRuntime) -> io::Result<()> {

@@ -46,15 +46,21 @@ nothing is written. examples/png makes a PNG of a PPM:
 ./desk-run planpic examples/small_screen.plan examples/small_screen.mem | examples/png > x.png
 ";
 
+// A plan's list, and the VIDEO_CONTROL that it is shown with.
+#[derive(Clone, Copy)]
+struct Screen<'a> {
+    list: &'a [u8],
+    video: u8,
+}
+
 // The list goes into memory, and what a board that is pointed at it shows is written.
 fn installed<R: Print, E: Print>(
     host: &Host<R, E>,
     mem: &mut [u8],
-    list: &[u8],
-    video: u8,
+    screen: Screen,
 ) -> io::Result<()> {
-    match vram::install(mem, list, LIST) {
-        Ok(()) => picture::write(host, pointed(LIST, video), mem),
+    match vram::install(mem, screen.list, LIST) {
+        Ok(()) => picture::write(host, pointed(LIST, screen.video), mem),
         Err(why) => host.errors.println(RefusalLine::from(why)),
     }
 }
@@ -63,11 +69,10 @@ fn installed<R: Print, E: Print>(
 fn in_memory<R: Print, E: Print>(
     host: &Host<R, E>,
     image: &mut [u8],
-    list: &[u8],
-    video: u8,
+    screen: Screen,
 ) -> io::Result<()> {
     match image.split_last_mut() {
-        Some((_, mem)) => installed(host, mem, list, video),
+        Some((_, mem)) => installed(host, mem, screen),
         None => Ok(()),
     }
 }
@@ -76,12 +81,11 @@ fn in_memory<R: Print, E: Print>(
 fn with_image<R: Env + Files + Print, E: Print>(
     host: &Host<R, E>,
     image: &mut [u8],
-    list: &[u8],
+    screen: Screen,
     memory: usize,
-    video: u8,
 ) -> io::Result<()> {
     match host.read_file(memory, image) {
-        Some(n) if n <= Vram::LONGEST => in_memory(host, image, list, video),
+        Some(n) if n <= Vram::LONGEST => in_memory(host, image, screen),
         Some(_) => println!(host.errors; "MEMORY has more than 524288 bytes"),
         None => Ok(()),
     }
@@ -90,12 +94,11 @@ fn with_image<R: Env + Files + Print, E: Print>(
 // The image, with room for one byte more than memory has, so that a longer one is seen.
 fn with_list<R: Env + Files + Print, E: Print>(
     host: &Host<R, E>,
-    list: &[u8],
+    screen: Screen,
     memory: usize,
-    video: u8,
 ) -> io::Result<()> {
     let mut image = [0u8; 524289];
-    with_image(host, &mut image, list, memory, video)
+    with_image(host, &mut image, screen, memory)
 }
 
 // The list of the plan in the file that an argument names, and how many bytes it has.
@@ -118,11 +121,15 @@ fn shown<R: Env + Files + Print, E: Print>(
     memory: usize,
     video: u8,
 ) -> io::Result<()> {
-    let mut list = [0u8; 5280];
-    match list_of(host, plan, &mut list) {
-        Some(n) => with_list(host, &list[..n], memory, video),
-        None => Ok(()),
-    }
+    let mut list = [0u8; Vram::INSTALLED];
+    let Some(n) = list_of(host, plan, &mut list) else {
+        return Ok(());
+    };
+    let screen = Screen {
+        list: &list[..n],
+        video,
+    };
+    with_list(host, screen, memory)
 }
 
 fn main(rt: HostRuntime) -> io::Result<()> {

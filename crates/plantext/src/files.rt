@@ -134,29 +134,34 @@ impl<R: Env + Files + Input, E: Print> Host<'_, R, E> {
         }
         self.read_file(i, plan)
     }
+
+    // The first 8,192 bytes of that plan, lent; they decide. Nothing is done where it cannot be read.
+    pub fn with_plan<F: FnOnce(&[u8]) -> io::Result<()>>(&self, i: usize, show: F) -> io::Result<()>
+        requires { F.IsAlwaysCallable show }
+    {
+        let mut plan = [0u8; 8192];
+        match self.read_plan(i, &mut plan) {
+            Some(n) => show(&plan[..n]),
+            None => Ok(()),
+        }
+    }
 }
 
 impl<R: Env + Files + Input + Print, E: Print> Host<'_, R, E> {
     // The list of an argument's plan as text; of the plan, the first 8,192 bytes decide. Where something is to stand behind its name, they
     // stand before it.
     pub fn list_file(&self, i: usize, behind: Option<&[u8]>) -> io::Result<()> {
-        let mut plan = [0u8; 8192];
-        let Some(n) = self.read_plan(i, &mut plan) else {
-            return Ok(());
-        };
-        if let Some(behind) = behind {
-            self.print_name(i, behind)?;
-        }
-        super::print_list(self.rt, &plan[..n])
+        self.with_plan(i, |plan| {
+            if let Some(behind) = behind {
+                self.print_name(i, behind)?;
+            }
+            super::print_list(self.rt, plan)
+        })
     }
 
     // The list's bytes.
     pub fn write_file(&self, i: usize) -> io::Result<()> {
-        let mut plan = [0u8; 8192];
-        match self.read_plan(i, &mut plan) {
-            Some(n) => super::write_list(self.rt, self.errors, &plan[..n]),
-            None => Ok(()),
-        }
+        self.with_plan(i, |plan| super::write_list(self.rt, self.errors, plan))
     }
 
     // The lists of all files that arguments name, as text.

@@ -12,6 +12,7 @@ ghost use Rattle.plantext.specs.Listed.{list_size};
 use plan::ItemRefusal;
 use print::RefusalLine;
 use std::io;
+use vram::Vram;
 
 // A hex digit in upper case.
 fn digit(n: u8) -> u8
@@ -41,8 +42,8 @@ fn put_line(text: &mut [u8], s: &[u8])
     requires { 3 * length s.now ≤ length text.old }
     ensures { text.new ≡ hex_line s.now ++ drop (3 * length s.now) text.old }
 {
-    for i in 0..s.len() {
-        put_hex(&mut text[3 * i..], s[i], i + 1 == s.len());
+    for (i, b) in s.iter().enumerate() {
+        put_hex(&mut text[3 * i..], *b, i + 1 == s.len());
     }
 }
 
@@ -91,9 +92,9 @@ pub fn compiled<P: Print>(plan: &[u8], list: &mut [u8], refusals: &P) -> Option<
     }
 }
 
-// A plan's list as text, or its refusal. A list has 5,280 bytes at most.
+// A plan's list as text, or its refusal. A list has as many bytes at most as are installed at once.
 pub fn print_list<R: Print>(rt: &R, plan: &[u8]) -> io::Result<()> {
-    let mut list = [0u8; 5280];
+    let mut list = [0u8; Vram::INSTALLED];
     let Some(n) = compiled(plan, &mut list, rt) else {
         return Ok(());
     };
@@ -103,7 +104,7 @@ pub fn print_list<R: Print>(rt: &R, plan: &[u8]) -> io::Result<()> {
 
 // The list's bytes. A refusal goes to standard error: nothing but a list is written.
 pub fn write_list<R: Print, E: Print>(rt: &R, errors: &E, plan: &[u8]) -> io::Result<()> {
-    let mut list = [0u8; 5280];
+    let mut list = [0u8; Vram::INSTALLED];
     match compiled(plan, &mut list, errors) {
         Some(n) => rt.write_all(&list[..n]),
         None => Ok(()),

@@ -2,6 +2,7 @@
 #![tactic(auto)]
 
 use board::Board;
+use boardtext::boards::changed;
 use boardtext::{Shown, blocks};
 use std::io;
 
@@ -9,7 +10,7 @@ use std::io;
 fn reads<R: Print>(rt: &R, board: Board, offset: u32) -> io::Result<()> {
     match board.read(offset) {
         Ok(v) => print!(rt; " {v:02X}"),
-        Err(why) => print!(rt; " refused {}", why.number()),
+        Err(why) => print!(rt; " {}", Shown(why)),
     }
 }
 
@@ -153,35 +154,31 @@ fn ticks<R: Print>(rt: &R, name: &str, board: Board, mem: &mut [u8]) -> io::Resu
     )
 }
 
-// A new board with something changed.
-fn changed<F: FnOnce(&mut Board)>(change: F) -> Board
-    requires { F.IsAlwaysCallable change }
-{
-    let mut board = Board::new();
-    change(&mut board);
-    board
-}
-
 // Ports out of their widths.
 fn wide_ports<R: Print>(rt: &R, mem: &mut [u8]) -> io::Result<()> {
-    calls(rt, "VIDEO_CONTROL 16", changed(|b| b.ports.video = 16), mem)?;
+    calls(
+        rt,
+        "VIDEO_CONTROL 16",
+        changed(Board::new(), |b| b.ports.video = 16),
+        mem,
+    )?;
     calls(
         rt,
         "XDL_ADR 524288",
-        changed(|b| b.ports.xdladr = 524288),
+        changed(Board::new(), |b| b.ports.xdladr = 524288),
         mem,
     )?;
     calls(
         rt,
         "BL_ADR 524288",
-        changed(|b| b.ports.bladr = 524288),
+        changed(Board::new(), |b| b.ports.bladr = 524288),
         mem,
     )
 }
 
 // A blitter with these fields and one byte of its block.
 fn with(flags: u8, list: u32, row: u16, col: u16, control: u8) -> Board {
-    changed(|b| {
+    changed(Board::new(), |b| {
         b.blitter.flags = flags;
         b.blitter.list = list;
         b.blitter.row = row;
@@ -224,5 +221,9 @@ fn main(rt: HostRuntime) -> io::Result<()> {
     wide_ports(&rt, &mut mem)?;
     unsound(&rt, &mut mem)?;
     sound(&rt, &mut mem)?;
-    all(&rt, "IRQF without IRQE", changed(|b| b.blitter.irqf = true))
+    all(
+        &rt,
+        "IRQF without IRQE",
+        changed(Board::new(), |b| b.blitter.irqf = true),
+    )
 }
