@@ -18,12 +18,13 @@ fn addressed(board: Board, offset: u32, address: u32) -> Board
     requires { offset ≤ 0x50 }
     ensures { result ≡ addressed offset address board }
 {
+    let [low, middle, high, _] = address.to_le_bytes();
     board
-        .write(offset, (address % 256) as u8)
+        .write(offset, low)
         .state
-        .write(offset + 1, (address / 256 % 256) as u8)
+        .write(offset + 1, middle)
         .state
-        .write(offset + 2, (address / 65536 % 256) as u8)
+        .write(offset + 2, high)
         .state
 }
 

@@ -32,12 +32,7 @@ impl<'a> Memory<'a> {
     // The number of the item whose record is at an address: each item of a plan has one record, in the same order. It has 240 items
     // at most.
     fn item_of(self, origin: u32) -> Option<u16> {
-        let mut reader = Reader {
-            settings: Settings::new(),
-            position: self.list?,
-            repeat: 0,
-            ended: false,
-        };
+        let mut reader = Reader::new(self.list?);
         for i in 0..Frame::LINES {
             if reader.position == origin {
                 return Some(i);

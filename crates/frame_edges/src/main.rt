@@ -15,12 +15,7 @@ use std::io;
 // A frame that is on, as it begins.
 fn begun() -> Frame {
     Frame {
-        reader: Reader {
-            settings: Settings::new(),
-            position: 0,
-            repeat: 0,
-            ended: false,
-        },
+        reader: Reader::new(0),
         line: 0,
         on: true,
     }
