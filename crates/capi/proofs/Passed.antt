@@ -9,7 +9,8 @@ use borrow.Author.Tests.{le-leb, leb-true}
 use native.Mathlib.Omega.{arith}
 use Rattle.std.specs.Prelude.{Result, Ok, Err, IfErr}
 use Rattle.engine.specs.declared.Counts.{Counts}
-use Rattle.refusal.specs.Sheet.{number_of, Told, done, refused, unless, kept}
+use Rattle.refusal.specs.Sheet.{number_of, Told, done, refused, told, unless, kept}
+use Rattle.refusal.specs.declared.Refusal.{Refusal}
 use Rattle.refusal.proofs.Sheet.{done_refused, refused_done}
 use Rattle.vram.specs.Memory.{good_length}
 use Rattle.board.specs.declared.Board.{Board}
@@ -36,8 +37,8 @@ pub record Read {S : Type 0} (size : ℕ) (test : List ℕ → Bool) (of : List 
 
 module _ {S : Type 0} (size : ℕ) (test : List ℕ → Bool) (of : List ℕ → S) {words : List ℕ} {s : S} where
   -- as a call tests them
-  pub as_tested : done s ≡ whole size words (unless (test words) 15 (done (of words))) → Read size test of words s
-  as_tested e = by (leb size (length words)) (test words) refl refl e
+  pub as_tested : {x : Result S Refusal} → told x ≡ whole size words (unless (test words) 15 (done (of words))) → x ≡ Ok s → Read size test of words s
+  as_tested e w = by (leb size (length words)) (test words) refl refl (sym (ap told w) ∙ e)
     where
       by : (t u : Bool) → leb size (length words) ≡ t → test words ≡ u → done s ≡ unless t 15 (unless u 15 (done (of words))) → Read size test of words s
       by true true p q d = record { enough = leb-true size (length words) p; fits = q; is = cc d }

@@ -6,8 +6,9 @@ use Prim.Native.Nat.{ℕ, ◌≤◌, ◌<◌}
 use lib.ListN.{length}
 use borrow.Author.Tests.{le-leb, lt-leb}
 use Rattle.std.specs.Prelude.{Result, Ok, Err, IsErrAnd}
-use Rattle.refusal.specs.Sheet.{number_of, Told, done, refused, told, unless, kept}
+use Rattle.refusal.specs.Sheet.{number_of, Told, done, refused, told, asked, unless, kept}
 use Rattle.refusal.specs.declared.Refusal.{Refusal}
+use Rattle.refusal.proofs.Sheet.{asked_ok}
 use Rattle.words.specs.Words.{laid}
 use Rattle.capi.specs.Calls.{report_laid, reportable}
 
@@ -15,6 +16,10 @@ use Rattle.capi.specs.Calls.{report_laid, reportable}
 pub told_on : {V : Type 0} (x : Result V Refusal) (w : Refusal) → IsErrAnd x (λ r. r ≡ w) → told x ≡ refused (number_of w) 0
 told_on (Ok v) w e = absurd e
 told_on (Err v) w e = ap (λ (u : Refusal). refused (number_of u) 0) e
+
+-- a test that `?` goes past holds, and with it what it tests
+pub asked_true : {t u : Bool} (why : Refusal) {x : Result (Unit {0}) Refusal} {v : Unit {0}} → u ≡ t → x ≡ asked u why → x ≡ Ok v → t ≡ true
+asked_true why e a w = sym e ∙ asked_ok _ _ (sym a ∙ w)
 
 module _ {X : Type 0} (call : Told X) (k item : ℕ) (e : call ≡ refused k item) where
   pub no_change : {A : Type 0} (old new : A) → old ≡ kept call old new

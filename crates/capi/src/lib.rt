@@ -284,6 +284,7 @@ pub extern "C" fn deskboard_next_line(frame: &mut [u32], mem: &[u8], settings: &
 
 // A line whose count has no room is drawn into one of our own, which has room for every line: refusals 1 and 15 come as always, 17 by
 // its count and the room, and a line that has none of these is refused 13.
+#[tactic(auto, using(crate::proofs::Drawn::refused_too))]
 fn draw_unreported(
     board: Board,
     settings: Settings,
@@ -338,7 +339,7 @@ pub extern "C" fn deskboard_draw(
 
 // A plan whose count has no room is compiled into no room at all: its other refusals come as always, and a plan that has none is refused 13,
 // since no list is empty.
-#[tactic(auto, unfolding(crate::specs::Calls::compile_call))]
+#[tactic(auto, using(crate::proofs::Passed::compile_passed, crate::proofs::Passed::compile_short, crate::proofs::Passed::compile_out, plan::proofs::Compiling::compiled_at_most), unfolding(crate::specs::Calls::compile_call))]
 fn compile(plan: &[u8], out: &mut [u8], report: &mut [u32]) -> Result<usize, ItemRefusal>
     ensures answer { compile_told result ≡ compile_call plan.now (length out.old) report.old }
     ensures output { out.new ≡ compile_bytes plan.now out.old report.old }
@@ -353,6 +354,7 @@ fn compile(plan: &[u8], out: &mut [u8], report: &mut [u32]) -> Result<usize, Ite
 }
 
 #[unsafe(no_mangle)]
+#[tactic(auto, using(crate::proofs::Passed::few_items))]
 pub extern "C" fn deskboard_compile(plan: &[u8], out: &mut [u8], report: &mut [u32]) -> u32
     ensures number { result ≡ number_told (compile_call plan.now (length out.old) report.old) }
     ensures output { out.new ≡ compile_bytes plan.now out.old report.old }

@@ -5,11 +5,8 @@ use Rattle.refusal.specs.Sheet.{number_of, refused, told}
 use Rattle.refusal.specs.declared.Refusal.{Refusal}
 use Rattle.refusal.proofs.Sheet.{asked_ok, asked_err}
 use Rattle.capi.proofs.Told.{told_on}
-use Rattle.capi.proofs.Drawn.{too_short, long_enough, refused_too}
+use Rattle.capi.proofs.Drawn.{too_short, long_enough}
 use Rattle.capi.proofs.draw_unreported.Goals as goal
-
-pub returns-in_err-count : goal.returns-in_err-count
-returns-in_err-count c = told_on _ _ c.from_residual.ensures.1 ∙ sym (refused_too _ _ _ _ _ _ (sym (ap told c.in_err-count.was) ∙ c.draw.ensures.answer))
 
 pub returns-in_err-ask : goal.returns-in_err-ask
 returns-in_err-ask c =
