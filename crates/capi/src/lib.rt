@@ -78,7 +78,8 @@ fn item_number(answer: Result<usize, ItemRefusal>) -> u32
     }
 }
 
-// The states that words say: refused 15 where they are too few, or one is above its field.
+// The states that words say: refused 15 where they are too few, or one is above its field. One function for the three would take a test and
+// a reader as closures, and its promise would say of each what it gives: no plainer.
 fn board_in(words: &[u32]) -> Result<Board, Refusal>
     ensures { told result ≡ whole board_size words.now (unless (board_fits words.now) 15 (done (board_of words.now))) }
 {

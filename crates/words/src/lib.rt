@@ -56,6 +56,8 @@ pub fn lay(words: &mut [u32], new: &[u32])
 }
 
 // What is read of N words. Those that are missing are 0: they are filled up first, so that a word that is read needs no test (docs/SPEED.md).
+// They are lent as a slice and not as an array: no closure's bound may name N, and a slice's first N words as an array are a pointer that a
+// function gives, which the page in a browser does not allow for.
 pub fn read_whole<T, F: Fn(&[u32]) -> T, const N: usize>(words: &[u32], read: F) -> T
     requires size { N * 4 < 2 ^ 63 }
     requires reads { (whole : _) → N ≤ length whole.now → F.pre read whole }
