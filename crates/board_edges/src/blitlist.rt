@@ -30,43 +30,44 @@ pub fn lay(mem: &mut [u8], at: u32, block: Block) {
     put(mem, &blocks::bytes(block), at);
 }
 
-// A run, what it reports, and how the board stands after it.
-pub fn ran<R: Print>(
-    rt: &R,
-    name: &str,
-    board: Board,
-    mem: &mut [u8],
-    budget: u32,
-) -> io::Result<Board> {
-    let run = board.run(mem, budget);
-    println!(rt; "{name}{}{}", Shown(run.report), Shown(run.state.blitter))?;
-    Ok(run.state)
+// What the cases work on: where they print, and a memory.
+#[derive(Drop)]
+pub struct Bench<'r, 'm, R> {
+    pub rt: &'r R,
+    pub mem: &'m mut [u8],
 }
 
-// The first run of the list at 0.
-pub fn first<R: Print>(rt: &R, name: &str, mem: &mut [u8], budget: u32) -> io::Result<Board> {
-    ran(rt, name, started(0), mem, budget)
-}
-
-// The list at 0 in runs of so many ticks.
-pub fn in_runs<R: Print>(rt: &R, mem: &mut [u8], pieces: &[(&str, u32)]) -> io::Result<()> {
-    let mut board = started(0);
-    for &(name, budget) in pieces {
-        board = ran(rt, name, board, mem, budget)?;
+impl<R: Print> Bench<'_, '_, R> {
+    // A run, what it reports, and how the board stands after it.
+    pub fn ran(&mut self, name: &str, board: Board, budget: u32) -> io::Result<Board> {
+        let run = board.run(self.mem, budget);
+        println!(self.rt; "{name}{}{}", Shown(run.report), Shown(run.state.blitter))?;
+        Ok(run.state)
     }
-    Ok(())
-}
 
-// A list of one block, run to its end, and the eight cells from an address on.
-pub fn single<R: Print>(
-    rt: &R,
-    name: &str,
-    mem: &mut [u8],
-    list: u32,
-    block: Block,
-    at: u32,
-) -> io::Result<()> {
-    lay(mem, list, block);
-    ran(rt, name, started(list), mem, 100)?;
-    show::cells(rt, mem, at)
+    // The first run of the list at 0.
+    pub fn first(&mut self, name: &str, budget: u32) -> io::Result<Board> {
+        self.ran(name, started(0), budget)
+    }
+
+    // The list at 0 in runs of so many ticks.
+    pub fn in_runs(&mut self, pieces: &[(&str, u32)]) -> io::Result<()> {
+        let mut board = started(0);
+        for &(name, budget) in pieces {
+            board = self.ran(name, board, budget)?;
+        }
+        Ok(())
+    }
+
+    // Eight cells from an address on.
+    pub fn cells(&self, at: u32) -> io::Result<()> {
+        show::cells(self.rt, self.mem, at)
+    }
+
+    // A list of one block, run to its end, and the eight cells from an address on.
+    pub fn single(&mut self, name: &str, list: u32, block: Block, at: u32) -> io::Result<()> {
+        lay(self.mem, list, block);
+        self.ran(name, started(list), 100)?;
+        self.cells(at)
+    }
 }

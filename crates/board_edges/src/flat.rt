@@ -1,6 +1,6 @@
 // Rows of eight bytes that lie one after the other in memory, as most do: over themselves, past the memory's end, in a
 // mode that skips, and without a source. The list is at 100, since a row may be at 0.
-use super::blitlist;
+use super::blitlist::{self, Bench};
 use block::Block;
 use boardtext::boards::put;
 use std::io;
@@ -16,64 +16,64 @@ fn row(s: u8, d: u8) -> Block {
 const EIGHT: &[u8] = b"\x01\x02\x03\x04\x05\x06\x07\x08";
 
 // Each byte is read after the one before was written: the first goes on and on.
-fn further<R: Print>(rt: &R, mem: &mut [u8]) -> io::Result<()> {
-    put(mem, EIGHT, 0x2000);
+fn further<R: Print>(bench: &mut Bench<R>) -> io::Result<()> {
+    put(bench.mem, EIGHT, 0x2000);
     let mut block = row(0x20, 0x20);
     block.dest.adr0 = 1;
-    blitlist::single(rt, "8 bytes one further", mem, 100, block, 0x2000)
+    bench.single("8 bytes one further", 100, block, 0x2000)
 }
 
 // Each byte is read before it is written: they move.
-fn back<R: Print>(rt: &R, mem: &mut [u8]) -> io::Result<()> {
-    put(mem, b"\x01\x02\x03\x04\x05\x06\x07\x08\x09", 0x2000);
+fn back<R: Print>(bench: &mut Bench<R>) -> io::Result<()> {
+    put(bench.mem, b"\x01\x02\x03\x04\x05\x06\x07\x08\x09", 0x2000);
     let mut block = row(0x20, 0x20);
     block.source.adr0 = 1;
-    blitlist::single(rt, "8 bytes one back", mem, 100, block, 0x2000)
+    bench.single("8 bytes one back", 100, block, 0x2000)
 }
 
 // One byte, zoomed, that is itself the fourth of those written.
-fn among<R: Print>(rt: &R, mem: &mut [u8]) -> io::Result<()> {
-    put(mem, EIGHT, 0x2000);
+fn among<R: Print>(bench: &mut Bench<R>) -> io::Result<()> {
+    put(bench.mem, EIGHT, 0x2000);
     let mut block = blitlist::plain(0x20, 0x20);
     block.source.adr0 = 3;
     block.xormask = 1;
     block.zoom = 7;
-    blitlist::single(rt, "8 of one byte among them", mem, 100, block, 0x2000)
+    bench.single("8 of one byte among them", 100, block, 0x2000)
 }
 
 // Four bytes at the memory's end, and four at its beginning.
-fn past<R: Print>(rt: &R, mem: &mut [u8]) -> io::Result<()> {
-    put(mem, EIGHT, 0x2000);
+fn past<R: Print>(bench: &mut Bench<R>) -> io::Result<()> {
+    put(bench.mem, EIGHT, 0x2000);
     let mut block = row(0x20, 0x3F);
     block.dest.adr0 = 0xFC;
-    blitlist::single(rt, "8 bytes past the end", mem, 100, block, 16380)
+    bench.single("8 bytes past the end", 100, block, 16380)
 }
 
 // Mode 1 skips every second byte.
-fn skipping<R: Print>(rt: &R, mem: &mut [u8]) -> io::Result<()> {
-    put(mem, b"\x01\x00\x02\x00\x03\x00\x04\x00", 0x2000);
-    put(mem, b"\x11\x12\x13\x14\x15\x16\x17\x18", 0x2100);
+fn skipping<R: Print>(bench: &mut Bench<R>) -> io::Result<()> {
+    put(bench.mem, b"\x01\x00\x02\x00\x03\x00\x04\x00", 0x2000);
+    put(bench.mem, b"\x11\x12\x13\x14\x15\x16\x17\x18", 0x2100);
     let mut block = row(0x20, 0x21);
     block.control = 1;
-    blitlist::single(rt, "8 bytes in mode 1", mem, 100, block, 0x2100)
+    bench.single("8 bytes in mode 1", 100, block, 0x2100)
 }
 
 // Mode 5 without a source turns each bit.
-fn turned<R: Print>(rt: &R, mem: &mut [u8]) -> io::Result<()> {
-    put(mem, EIGHT, 0x2100);
+fn turned<R: Print>(bench: &mut Bench<R>) -> io::Result<()> {
+    put(bench.mem, EIGHT, 0x2100);
     let block = Block {
         width0: 7,
         control: 5,
         ..blitlist::fill(0x21, 255)
     };
-    blitlist::single(rt, "8 bytes in mode 5, AND 0", mem, 100, block, 0x2100)
+    bench.single("8 bytes in mode 5, AND 0", 100, block, 0x2100)
 }
 
-pub fn all<R: Print>(rt: &R, mem: &mut [u8]) -> io::Result<()> {
-    further(rt, mem)?;
-    back(rt, mem)?;
-    among(rt, mem)?;
-    past(rt, mem)?;
-    skipping(rt, mem)?;
-    turned(rt, mem)
+pub fn all<R: Print>(bench: &mut Bench<R>) -> io::Result<()> {
+    further(bench)?;
+    back(bench)?;
+    among(bench)?;
+    past(bench)?;
+    skipping(bench)?;
+    turned(bench)
 }

@@ -1,8 +1,7 @@
 // When a list ends (document 02, A10). The largest block, in nine runs, is in the program itself.
-use super::blitlist;
+use super::blitlist::{self, Bench};
 use block::Block;
 use boardtext::boards::started;
-use boardtext::show;
 use std::io;
 
 // A fill of 3 by 2 bytes at 2000h, zoomed 2 by 3, and one of one byte at 3000h: 37 ticks and 2.
@@ -20,46 +19,47 @@ fn two_fills(mem: &mut [u8]) {
 }
 
 // Idle after 39 ticks, however they are divided into runs: three runs, one tick short of them; the last tick, and none behind it.
-fn in_five_runs<R: Print>(rt: &R, mem: &mut [u8]) -> io::Result<()> {
-    two_fills(mem);
+fn in_five_runs<R: Print>(bench: &mut Bench<R>) -> io::Result<()> {
+    two_fills(bench.mem);
     let mut board = started(0);
     for budget in [10, 20, 8, 1, 5] {
-        print!(rt; "39 ticks, run of {budget}")?;
-        board = blitlist::ran(rt, "", board, mem, budget)?;
+        print!(bench.rt; "39 ticks, run of {budget}")?;
+        board = bench.ran("", board, budget)?;
     }
-    show::cells(rt, mem, 0x2050)?;
-    show::cells(rt, mem, 0x3000)
+    bench.cells(0x2050)?;
+    bench.cells(0x3000)
 }
 
 // L is 16,384, so the cell of 16,384 is the list's own first byte,
-fn own_byte<R: Print>(rt: &R, mem: &mut [u8]) -> io::Result<()> {
+fn own_byte<R: Print>(bench: &mut Bench<R>) -> io::Result<()> {
     let over = blitlist::fill(0x40, 0x77);
-    blitlist::single(rt, "list at 0, destination 16384", mem, 0, over, 0)
+    bench.single("list at 0, destination 16384", 0, over, 0)
 }
 
 // and that of 16,417 is the width of its second block, which then takes 5 ticks and not 2.
-fn own_width<R: Print>(rt: &R, mem: &mut [u8]) -> io::Result<()> {
+fn own_width<R: Print>(bench: &mut Bench<R>) -> io::Result<()> {
     let mut over = blitlist::fill(0x40, 3);
     over.dest.adr0 = 33;
     over.control = 8;
-    blitlist::lay(mem, 21, blitlist::fill(0x30, 2));
-    blitlist::single(rt, "list at 0, destination 16417", mem, 0, over, 0x3000)
+    blitlist::lay(bench.mem, 21, blitlist::fill(0x30, 2));
+    bench.single("list at 0, destination 16417", 0, over, 0x3000)
 }
 
 // A list over the top of memory ends like any other.
-fn over_the_top<R: Print>(rt: &R, mem: &mut [u8]) -> io::Result<()> {
+fn over_the_top<R: Print>(bench: &mut Bench<R>) -> io::Result<()> {
     let four = Block {
         width0: 3,
         ..blitlist::fill(0x14, 0x5A)
     };
-    blitlist::single(rt, "fill of 4, list at 524280", mem, 524280, four, 0x1400)
+    bench.single("fill of 4, list at 524280", 524280, four, 0x1400)
 }
 
 // All of them, in a memory of their own.
 pub fn all<R: Print>(rt: &R) -> io::Result<()> {
     let mut mem = [0u8; 16384];
-    in_five_runs(rt, &mut mem)?;
-    own_byte(rt, &mut mem)?;
-    own_width(rt, &mut mem)?;
-    over_the_top(rt, &mut mem)
+    let bench = &mut Bench { rt, mem: &mut mem };
+    in_five_runs(bench)?;
+    own_byte(bench)?;
+    own_width(bench)?;
+    over_the_top(bench)
 }

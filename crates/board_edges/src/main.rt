@@ -8,37 +8,37 @@ mod list_ends;
 mod pointers;
 mod start_cases;
 
+use blitlist::Bench;
 use block::Block;
 use board::Board;
 use boardtext::boards::{put, started};
-use boardtext::show;
 use std::io;
 
 // Copy and fill of 4 bytes.
-fn copies<R: Print>(rt: &R, mem: &mut [u8]) -> io::Result<()> {
-    put(mem, b"\x01\x02\x03\x04", 0x2000);
+fn copies<R: Print>(bench: &mut Bench<R>) -> io::Result<()> {
+    put(bench.mem, b"\x01\x02\x03\x04", 0x2000);
     let mut copy = blitlist::plain(0x20, 0x10);
     copy.width0 = 3;
-    blitlist::single(rt, "copy of 4", mem, 0, copy, 0x1000)?;
+    bench.single("copy of 4", 0, copy, 0x1000)?;
     let mut four = blitlist::fill(0x11, 0x5A);
     four.width0 = 3;
-    blitlist::single(rt, "fill of 4", mem, 0, four, 0x1100)
+    bench.single("fill of 4", 0, four, 0x1100)
 }
 
 // The largest budget and one above it.
-fn budgets<R: Print>(rt: &R, mem: &mut [u8]) -> io::Result<()> {
-    blitlist::ran(rt, "idle, 1000000", Board::new(), mem, 1000000)?;
-    blitlist::ran(rt, "idle, 1000001", Board::new(), mem, 1000001)?;
-    blitlist::first(rt, "started, 1000001", mem, 1000001)?;
+fn budgets<R: Print>(bench: &mut Bench<R>) -> io::Result<()> {
+    bench.ran("idle, 1000000", Board::new(), 1000000)?;
+    bench.ran("idle, 1000001", Board::new(), 1000001)?;
+    bench.first("started, 1000001", 1000001)?;
     Ok(())
 }
 
 // The list at 0 in nine runs of a million ticks.
-fn nine<R: Print>(rt: &R, name: &str, mem: &mut [u8]) -> io::Result<()> {
+fn nine<R: Print>(bench: &mut Bench<R>, name: &str) -> io::Result<()> {
     let mut board = started(0);
     for run in 1..10 {
-        print!(rt; "{name}, run {run}")?;
-        board = blitlist::ran(rt, "", board, mem, 1000000)?;
+        print!(bench.rt; "{name}, run {run}")?;
+        board = bench.ran("", board, 1000000)?;
     }
     Ok(())
 }
@@ -46,7 +46,8 @@ fn nine<R: Print>(rt: &R, name: &str, mem: &mut [u8]) -> io::Result<()> {
 // The largest block has 8,388,608 bytes: with NEXT, as memory full of FF has it, and without.
 fn largest<R: Print>(rt: &R) -> io::Result<()> {
     let mut mem = [255u8; 16384];
-    nine(rt, "memory full of FF", &mut mem)?;
+    let bench = &mut Bench { rt, mem: &mut mem };
+    nine(bench, "memory full of FF")?;
     let block = Block {
         width0: 255,
         width1: 1,
@@ -55,46 +56,47 @@ fn largest<R: Print>(rt: &R) -> io::Result<()> {
         control: 7,
         ..blitlist::plain(0, 0)
     };
-    blitlist::lay(&mut mem, 0, block);
-    nine(rt, "largest block", &mut mem)
+    blitlist::lay(bench.mem, 0, block);
+    nine(bench, "largest block")
 }
 
 // The order of a run's refusals.
-fn refusals<R: Print>(rt: &R, mem: &mut [u8]) -> io::Result<()> {
+fn refusals<R: Print>(bench: &mut Bench<R>) -> io::Result<()> {
     let mut bad = Board::new();
     bad.blitter.row = 1;
-    blitlist::ran(rt, "row 1, 1000001", bad, mem, 1000001)?;
-    if let Some(short) = mem.get_mut(..16383) {
-        blitlist::ran(rt, "L 16383, row 1, 1000001", bad, short, 1000001)?;
+    bench.ran("row 1, 1000001", bad, 1000001)?;
+    let rt = bench.rt;
+    if let Some(mem) = bench.mem.get_mut(..16383) {
+        Bench { rt, mem }.ran("L 16383, row 1, 1000001", bad, 1000001)?;
     }
     Ok(())
 }
 
 // A block over a later one of its list.
-fn later_block<R: Print>(rt: &R, mem: &mut [u8]) -> io::Result<()> {
+fn later_block<R: Print>(bench: &mut Bench<R>) -> io::Result<()> {
     let mut over = blitlist::fill(0, 0x77);
     over.dest.adr0 = 37;
     over.control = 8;
-    blitlist::lay(mem, 21, blitlist::fill(0x12, 9));
-    blitlist::single(rt, "over a later block", mem, 0, over, 0x1200)
+    blitlist::lay(bench.mem, 21, blitlist::fill(0x12, 9));
+    bench.single("over a later block", 0, over, 0x1200)
 }
 
 // A block over its own control byte.
-fn own_control<R: Print>(rt: &R, mem: &mut [u8]) -> io::Result<()> {
+fn own_control<R: Print>(bench: &mut Bench<R>) -> io::Result<()> {
     let mut own = blitlist::fill(0, 8);
     own.dest.adr0 = 20;
     own.width0 = 1;
-    blitlist::single(rt, "over its own control byte", mem, 0, own, 16)
+    bench.single("over its own control byte", 0, own, 16)
 }
 
 // A list over the top of memory: one block, its load, then its byte.
-fn wraps<R: Print>(rt: &R, mem: &mut [u8], at: u32, value: u8) -> io::Result<()> {
-    blitlist::lay(mem, at, blitlist::fill(0x13, value));
-    print!(rt; "list at {at}")?;
-    let loaded = blitlist::ran(rt, "", started(at), mem, 1)?;
-    print!(rt; "list at {at}")?;
-    blitlist::ran(rt, ", its byte", loaded, mem, 9)?;
-    show::cells(rt, mem, 0x1300)
+fn wraps<R: Print>(bench: &mut Bench<R>, at: u32, value: u8) -> io::Result<()> {
+    blitlist::lay(bench.mem, at, blitlist::fill(0x13, value));
+    print!(bench.rt; "list at {at}")?;
+    let loaded = bench.ran("", started(at), 1)?;
+    print!(bench.rt; "list at {at}")?;
+    bench.ran(", its byte", loaded, 9)?;
+    bench.cells(0x1300)
 }
 
 // A zoomed picture added to itself, 3 bytes further on.
@@ -130,13 +132,10 @@ fn compared<R: Print>(rt: &R) -> io::Result<()> {
     let mut one = [0u8; 16384];
     long_list(&mut one);
     let mut two = one;
-    blitlist::first(rt, "in one", &mut one, 146)?;
-    blitlist::in_runs(
-        rt,
-        &mut two,
-        &[("1 tick", 1), ("50 ticks", 50), ("the rest", 95)],
-    )?;
-    show::cells(rt, &two, 0x2000)?;
+    Bench { rt, mem: &mut one }.first("in one", 146)?;
+    let divided = &mut Bench { rt, mem: &mut two };
+    divided.in_runs(&[("1 tick", 1), ("50 ticks", 50), ("the rest", 95)])?;
+    divided.cells(0x2000)?;
     if one.as_slice() == two.as_slice() {
         println!(rt; "in one and in pieces: the same memory")?;
     }
@@ -144,27 +143,26 @@ fn compared<R: Print>(rt: &R) -> io::Result<()> {
 }
 
 // Runs to their end, and what stands in their way. The fill runs again: one tick short of the end, the last tick, and idle.
-fn runs<R: Print>(rt: &R, mem: &mut [u8]) -> io::Result<()> {
-    copies(rt, mem)?;
-    blitlist::first(rt, "budget 0", mem, 0)?;
-    blitlist::first(rt, "budget 5", mem, 5)?;
-    blitlist::in_runs(
-        rt,
-        mem,
-        &[("one tick short", 4), ("the last tick", 1), ("idle", 10)],
-    )?;
-    budgets(rt, mem)?;
-    largest(rt)?;
-    refusals(rt, mem)?;
-    later_block(rt, mem)?;
-    own_control(rt, mem)?;
-    wraps(rt, mem, 524280, 0x11)?;
-    wraps(rt, mem, 16376, 0x22)
+fn runs<R: Print>(bench: &mut Bench<R>) -> io::Result<()> {
+    copies(bench)?;
+    bench.first("budget 0", 0)?;
+    bench.first("budget 5", 5)?;
+    bench.in_runs(&[("one tick short", 4), ("the last tick", 1), ("idle", 10)])?;
+    budgets(bench)?;
+    largest(bench.rt)?;
+    refusals(bench)?;
+    later_block(bench)?;
+    own_control(bench)?;
+    wraps(bench, 524280, 0x11)?;
+    wraps(bench, 16376, 0x22)
 }
 
 fn main(rt: HostRuntime) -> io::Result<()> {
     let mut mem = [0u8; 16384];
-    runs(&rt, &mut mem)?;
+    runs(&mut Bench {
+        rt: &rt,
+        mem: &mut mem,
+    })?;
     list_ends::all(&rt)?;
     pointers::all(&rt)?;
     start_cases::all(&rt)?;

@@ -1,8 +1,7 @@
 // A pointer drawn in mode 5 and taken away by drawing it again (document 02, A13): where that is allowed, and where it is not.
-use super::blitlist;
+use super::blitlist::{self, Bench};
 use block::Block;
 use boardtext::boards::{put, started};
-use boardtext::show;
 use std::io;
 
 fn compare<R: Print>(rt: &R, one: &[u8], two: &[u8]) -> io::Result<()> {
@@ -16,11 +15,11 @@ fn prepare(mem: &mut [u8], cells: &[u8], block: Block) {
 }
 
 // Drawn to the end twice, on one board.
-fn draw_twice<R: Print>(rt: &R, name: &str, mem: &mut [u8], at: u32) -> io::Result<()> {
-    let board = blitlist::first(rt, name, mem, 100)?;
-    show::cells(rt, mem, at)?;
-    blitlist::ran(rt, "again", board.write(0x53, 1).state, mem, 100)?;
-    show::cells(rt, mem, at)
+fn draw_twice<R: Print>(bench: &mut Bench<R>, name: &str, at: u32) -> io::Result<()> {
+    let board = bench.first(name, 100)?;
+    bench.cells(at)?;
+    bench.ran("again", board.write(0x53, 1).state, 100)?;
+    bench.cells(at)
 }
 
 // The same, and whether memory is as it was.
@@ -28,7 +27,7 @@ fn twice<R: Print>(rt: &R, name: &str, cells: &[u8], block: Block, at: u32) -> i
     let mut mem = [0u8; 16384];
     prepare(&mut mem, cells, block);
     let before = mem;
-    draw_twice(rt, name, &mut mem, at)?;
+    draw_twice(&mut Bench { rt, mem: &mut mem }, name, at)?;
     compare(rt, &mem, &before)
 }
 
@@ -50,19 +49,15 @@ fn repeated() -> Block {
 }
 
 // In one run, and then in three.
-fn in_one_and_three<R: Print>(rt: &R, mem: &mut [u8]) -> io::Result<()> {
-    blitlist::first(rt, "two bytes on one cell", mem, 100)?;
-    show::cells(rt, mem, 0x2100)?;
-    blitlist::in_runs(
-        rt,
-        mem,
-        &[
-            ("again, the load", 1),
-            ("again, a byte", 1),
-            ("again, the last byte", 1),
-        ],
-    )?;
-    show::cells(rt, mem, 0x2100)
+fn in_one_and_three<R: Print>(bench: &mut Bench<R>) -> io::Result<()> {
+    bench.first("two bytes on one cell", 100)?;
+    bench.cells(0x2100)?;
+    bench.in_runs(&[
+        ("again, the load", 1),
+        ("again, a byte", 1),
+        ("again, the last byte", 1),
+    ])?;
+    bench.cells(0x2100)
 }
 
 // Destinations may repeat, and the runs be divided; the collision code is another.
@@ -70,7 +65,7 @@ fn on_one_cell<R: Print>(rt: &R) -> io::Result<()> {
     let mut mem = [0u8; 16384];
     prepare(&mut mem, b"\x09\x03\x05", repeated());
     let before = mem;
-    in_one_and_three(rt, &mut mem)?;
+    in_one_and_three(&mut Bench { rt, mem: &mut mem })?;
     compare(rt, &mem, &before)
 }
 
@@ -131,10 +126,10 @@ fn second(low: u8) -> Block {
 }
 
 // One of the two lists.
-fn draw<R: Print>(rt: &R, name: &str, part: &str, mem: &mut [u8], list: u32) -> io::Result<()> {
-    print!(rt; "{name}, ")?;
-    blitlist::ran(rt, part, started(list), mem, 100)?;
-    show::cells(rt, mem, 0x2100)
+fn draw<R: Print>(bench: &mut Bench<R>, name: &str, part: &str, list: u32) -> io::Result<()> {
+    print!(bench.rt; "{name}, ")?;
+    bench.ran(part, started(list), 100)?;
+    bench.cells(0x2100)
 }
 
 fn in_both_orders<R: Print>(rt: &R, name: &str, low: u8) -> io::Result<()> {
@@ -142,10 +137,12 @@ fn in_both_orders<R: Print>(rt: &R, name: &str, low: u8) -> io::Result<()> {
     prepare(&mut one, b"\x10\x10\x10\x10\x01\x02\x04", first());
     blitlist::lay(&mut one, 256, second(low));
     let mut two = one;
-    draw(rt, name, "first", &mut one, 0)?;
-    draw(rt, name, "then second", &mut one, 256)?;
-    draw(rt, name, "second", &mut two, 256)?;
-    draw(rt, name, "then first", &mut two, 0)?;
+    let bench = &mut Bench { rt, mem: &mut one };
+    draw(bench, name, "first", 0)?;
+    draw(bench, name, "then second", 256)?;
+    let bench = &mut Bench { rt, mem: &mut two };
+    draw(bench, name, "second", 256)?;
+    draw(bench, name, "then first", 0)?;
     compare(rt, &one, &two)
 }
 

@@ -1,19 +1,19 @@
 // START, stop and the interrupt: each line says what was done and how the board stands.
-use super::blitlist;
+use super::blitlist::{self, Bench};
 use block::Block;
 use board::Board;
+use boardtext::Shown;
 use boardtext::boards::started;
-use boardtext::{Shown, show};
 use std::io;
 
 // A board in the middle of a fill of 4 bytes, with IRQF and a code that other work left.
-fn middle<R: Print>(rt: &R, name: &str, mem: &mut [u8]) -> io::Result<Board> {
+fn middle<R: Print>(bench: &mut Bench<R>, name: &str) -> io::Result<Board> {
     let four = Block {
         width0: 3,
         ..blitlist::fill(0x14, 0x5A)
     };
-    blitlist::lay(mem, 64, four);
-    let mut busy = blitlist::ran(rt, name, started(64), mem, 3)?;
+    blitlist::lay(bench.mem, 64, four);
+    let mut busy = bench.ran(name, started(64), 3)?;
     busy.blitter.irqf = true;
     busy.blitter.note.code = 5;
     Ok(busy)
@@ -33,27 +33,27 @@ fn stopped<R: Print>(rt: &R, busy: Board) -> io::Result<Board> {
     writes(rt, "stop by FE", busy, 0x53, 0xFE)
 }
 
-fn starts<R: Print>(rt: &R, mem: &mut [u8]) -> io::Result<()> {
-    let busy = middle(rt, "busy before START", mem)?;
-    blitlist::ran(rt, "run after stop", stopped(rt, busy)?, mem, 9)?;
-    show::cells(rt, mem, 0x1400)
+fn starts<R: Print>(bench: &mut Bench<R>) -> io::Result<()> {
+    let busy = middle(bench, "busy before START")?;
+    bench.ran("run after stop", stopped(bench.rt, busy)?, 9)?;
+    bench.cells(0x1400)
 }
 
 // Stop raises no interrupt, and leaves an idle board as it is.
-fn stops<R: Print>(rt: &R, mem: &mut [u8]) -> io::Result<()> {
-    let mut busy = middle(rt, "busy before stop", mem)?;
+fn stops<R: Print>(bench: &mut Bench<R>) -> io::Result<()> {
+    let mut busy = middle(bench, "busy before stop")?;
     busy.blitter.irqe = true;
     busy.blitter.irqf = false;
-    let idle = writes(rt, "stop with IRQE", busy, 0x53, 0)?;
-    writes(rt, "stop when idle", idle, 0x53, 0)?;
+    let idle = writes(bench.rt, "stop with IRQE", busy, 0x53, 0)?;
+    writes(bench.rt, "stop when idle", idle, 0x53, 0)?;
     Ok(())
 }
 
 // The list address stays at the end of a list and at a reset.
-fn ends<R: Print>(rt: &R, mem: &mut [u8]) -> io::Result<()> {
-    let busy = middle(rt, "busy before reset", mem)?;
-    blitlist::ran(rt, "run to its end", busy, mem, 9)?;
-    println!(rt; "reset in the middle{}", Shown(busy.reset().state.blitter))
+fn ends<R: Print>(bench: &mut Bench<R>) -> io::Result<()> {
+    let busy = middle(bench, "busy before reset")?;
+    bench.ran("run to its end", busy, 9)?;
+    println!(bench.rt; "reset in the middle{}", Shown(busy.reset().state.blitter))
 }
 
 // BL_ADR written while running changes BL_ADR alone: before the load,
@@ -63,11 +63,11 @@ fn early<R: Print>(rt: &R) -> io::Result<()> {
 }
 
 // and while a block is being done.
-fn moves<R: Print>(rt: &R, mem: &mut [u8]) -> io::Result<()> {
-    let busy = middle(rt, "busy before BL_ADR 128", mem)?;
-    let moved = writes(rt, "BL_ADR 128 while running", busy, 0x50, 128)?;
-    let end = blitlist::ran(rt, "run on", moved, mem, 9)?;
-    writes(rt, "START from there", end, 0x53, 1)?;
+fn moves<R: Print>(bench: &mut Bench<R>) -> io::Result<()> {
+    let busy = middle(bench, "busy before BL_ADR 128")?;
+    let moved = writes(bench.rt, "BL_ADR 128 while running", busy, 0x50, 128)?;
+    let end = bench.ran("run on", moved, 9)?;
+    writes(bench.rt, "START from there", end, 0x53, 1)?;
     Ok(())
 }
 
@@ -83,39 +83,41 @@ fn pair(mem: &mut [u8]) -> Board {
 }
 
 // With IRQE the last block alone raises IRQF; IRQ_CONTROL takes it away.
-fn raised<R: Print>(rt: &R, mem: &mut [u8]) -> io::Result<()> {
-    let enabled = pair(mem).write(0x54, 1).state;
-    let between = blitlist::ran(rt, "IRQE, first block", enabled, mem, 2)?;
-    let end = blitlist::ran(rt, "IRQE, last block", between, mem, 2)?;
-    writes(rt, "IRQ_CONTROL 01", end, 0x54, 1)?;
-    writes(rt, "IRQ_CONTROL FE", end, 0x54, 0xFE)?;
+fn raised<R: Print>(bench: &mut Bench<R>) -> io::Result<()> {
+    let enabled = pair(bench.mem).write(0x54, 1).state;
+    let between = bench.ran("IRQE, first block", enabled, 2)?;
+    let end = bench.ran("IRQE, last block", between, 2)?;
+    writes(bench.rt, "IRQ_CONTROL 01", end, 0x54, 1)?;
+    writes(bench.rt, "IRQ_CONTROL FE", end, 0x54, 0xFE)?;
     Ok(())
 }
 
 // Without IRQE it stays as it was: not raised,
-fn quiet<R: Print>(rt: &R, mem: &mut [u8]) -> io::Result<()> {
-    let end = blitlist::ran(rt, "no IRQE", pair(mem), mem, 4)?;
-    writes(rt, "IRQE after the end", end, 0x54, 1)?;
+fn quiet<R: Print>(bench: &mut Bench<R>) -> io::Result<()> {
+    let board = pair(bench.mem);
+    let end = bench.ran("no IRQE", board, 4)?;
+    writes(bench.rt, "IRQE after the end", end, 0x54, 1)?;
     Ok(())
 }
 
 // or raised by other work.
-fn left<R: Print>(rt: &R, mem: &mut [u8]) -> io::Result<()> {
-    let mut board = pair(mem);
+fn left<R: Print>(bench: &mut Bench<R>) -> io::Result<()> {
+    let mut board = pair(bench.mem);
     board.blitter.irqf = true;
-    blitlist::ran(rt, "no IRQE, IRQF before", board, mem, 4)?;
+    bench.ran("no IRQE, IRQF before", board, 4)?;
     Ok(())
 }
 
 // All of them, in a memory of their own.
 pub fn all<R: Print>(rt: &R) -> io::Result<()> {
     let mut mem = [0u8; 16384];
-    starts(rt, &mut mem)?;
-    stops(rt, &mut mem)?;
-    ends(rt, &mut mem)?;
+    let bench = &mut Bench { rt, mem: &mut mem };
+    starts(bench)?;
+    stops(bench)?;
+    ends(bench)?;
     early(rt)?;
-    moves(rt, &mut mem)?;
-    raised(rt, &mut mem)?;
-    quiet(rt, &mut mem)?;
-    left(rt, &mut mem)
+    moves(bench)?;
+    raised(bench)?;
+    quiet(bench)?;
+    left(bench)
 }
