@@ -33,21 +33,23 @@ fn counted<R: Print>(rt: &R, line: &[u16], n: usize) -> io::Result<()> {
     behind(rt, line, n)
 }
 
-// Draws into the first `room` entries of the line, on a sound board with a VIDEO_CONTROL of so much.
-fn into<R: Print>(
-    rt: &R,
-    line: &mut [u16],
+// What a line is drawn from, and into how many entries: its settings, a memory, and a board whose VIDEO_CONTROL is so much.
+#[derive(Clone, Copy)]
+struct Case<'a> {
     control: u8,
     settings: Settings,
-    mem: &[u8],
+    mem: &'a [u8],
     room: usize,
-) -> io::Result<()> {
+}
+
+// Draws into the first `room` entries of the line, on a board that is sound else.
+fn into<R: Print>(rt: &R, line: &mut [u16], case: Case) -> io::Result<()> {
     let mut board = Board::new();
-    board.ports.video = control;
-    let Some(lent) = line.get_mut(..room) else {
+    board.ports.video = case.control;
+    let Some(lent) = line.get_mut(..case.room) else {
         return Ok(());
     };
-    match pixels::draw(board, settings, mem, lent) {
+    match pixels::draw(board, case.settings, case.mem, lent) {
         Ok(n) => counted(rt, line, n as usize),
         Err(why) => {
             rt.println(RefusalLine::from(why))?;
@@ -56,17 +58,10 @@ fn into<R: Print>(
     }
 }
 
-fn drawn<R: Print>(
-    rt: &R,
-    title: &str,
-    control: u8,
-    settings: Settings,
-    mem: &[u8],
-    room: usize,
-) -> io::Result<()> {
+fn drawn<R: Print>(rt: &R, title: &str, case: Case) -> io::Result<()> {
     let mut line = [7u16; 680];
     print!(rt; "{title}: ")?;
-    into(rt, &mut line, control, settings, mem, room)
+    into(rt, &mut line, case)
 }
 
 // A line of a mode and a width, in a palette, with its data at an address; font 1, font line 3, and a vscroll that is not added to it.
@@ -82,8 +77,18 @@ fn picture(mode: u8, width: u8, palette: u8, address: u32) -> Settings {
     s
 }
 
+// A whole line, with a VIDEO_CONTROL of 0.
+fn whole<'a>(settings: Settings, mem: &'a [u8]) -> Case<'a> {
+    Case {
+        control: 0,
+        settings,
+        mem,
+        room: 680,
+    }
+}
+
 // Under each of the four settings of no_trans and trans15; bit 0, xdl_enabled, does not matter.
-fn four<R: Print>(rt: &R, title: &str, settings: Settings, mem: &[u8]) -> io::Result<()> {
+fn four<R: Print>(rt: &R, title: &str, case: Case) -> io::Result<()> {
     println!(rt; "{title}")?;
     for (flags, control) in [
         ("no flags", 0),
@@ -91,7 +96,7 @@ fn four<R: Print>(rt: &R, title: &str, settings: Settings, mem: &[u8]) -> io::Re
         ("trans15", 9),
         ("both", 13),
     ] {
-        drawn(rt, flags, control, settings, mem, 680)?;
+        drawn(rt, flags, Case { control, ..case })?;
     }
     Ok(())
 }
@@ -113,40 +118,39 @@ fn place(mem: &mut [u8], attribute: u8, other: u8) {
 }
 
 fn modes<R: Print>(rt: &R, mem: &[u8]) -> io::Result<()> {
-    four(
-        rt,
-        "SR over the top, palette 2",
-        picture(2, 1, 2, 524286),
-        mem,
-    )?;
-    four(rt, "LR there", picture(4, 1, 2, 524286), mem)?;
-    let mut s = picture(3, 1, 1, 100);
-    s.overlay.hscroll = 5;
-    four(rt, "HR, palette 1, hscroll 5", s, mem)?;
-    four(
-        rt,
-        "Text, palette 2, attributes 0F and 8F",
-        picture(1, 1, 2, 200),
-        mem,
-    )
+    let mut hr = picture(3, 1, 1, 100);
+    hr.overlay.hscroll = 5;
+    for (title, settings) in [
+        ("SR over the top, palette 2", picture(2, 1, 2, 524286)),
+        ("LR there", picture(4, 1, 2, 524286)),
+        ("HR, palette 1, hscroll 5", hr),
+        (
+            "Text, palette 2, attributes 0F and 8F",
+            picture(1, 1, 2, 200),
+        ),
+    ] {
+        four(rt, title, whole(settings, mem))?;
+    }
+    Ok(())
 }
 
 // One character more, only where the line is scrolled; the map on, with a palette that its cells, which are 0, do not have; data that goes over the top, and over
 // memory's end.
 fn scrolled<R: Print>(rt: &R, mem: &[u8]) -> io::Result<()> {
-    let mut s = picture(1, 0, 0, 200);
-    drawn(rt, "Text, narrow, not scrolled", 0, s, mem, 680)?;
-    s.overlay.hscroll = 1;
-    drawn(rt, "hscroll 1", 0, s, mem, 680)?;
-    s.overlay.hscroll = 7;
-    drawn(rt, "hscroll 7", 0, s, mem, 680)?;
-    s.map.on = true;
-    s.look.palette = 2;
-    drawn(rt, "hscroll 7, the map on", 0, s, mem, 680)?;
-    s.overlay.address = 524287;
-    drawn(rt, "hscroll 7, over the top", 4, s, mem, 680)?;
-    s.overlay.address = 16383;
-    drawn(rt, "hscroll 7, over memory's end", 4, s, mem, 680)
+    let mut case = whole(picture(1, 0, 0, 200), mem);
+    drawn(rt, "Text, narrow, not scrolled", case)?;
+    case.settings.overlay.hscroll = 1;
+    drawn(rt, "hscroll 1", case)?;
+    case.settings.overlay.hscroll = 7;
+    drawn(rt, "hscroll 7", case)?;
+    case.settings.map.on = true;
+    case.settings.look.palette = 2;
+    drawn(rt, "hscroll 7, the map on", case)?;
+    case.control = 4;
+    case.settings.overlay.address = 524287;
+    drawn(rt, "hscroll 7, over the top", case)?;
+    case.settings.overlay.address = 16383;
+    drawn(rt, "hscroll 7, over memory's end", case)
 }
 
 // Each mode in each width.
@@ -154,7 +158,7 @@ fn counts<R: Print>(rt: &R, mem: &[u8]) -> io::Result<()> {
     for (title, mode) in [("Off", 0), ("Text", 1), ("SR", 2), ("HR", 3), ("LR", 4)] {
         println!(rt; "{title}")?;
         for (name, width) in [("narrow", 0), ("normal", 1), ("wide", 2)] {
-            drawn(rt, name, 0, picture(mode, width, 3, 0), mem, 680)?;
+            drawn(rt, name, whole(picture(mode, width, 3, 0), mem))?;
         }
     }
     Ok(())
@@ -170,34 +174,48 @@ fn rooms<R: Print>(rt: &R, mem: &[u8]) -> io::Result<()> {
         ("Text, wide, into 671", 1, 2, 671),
         ("Text, wide, into 672", 1, 2, 672),
     ] {
-        drawn(rt, title, 0, picture(mode, width, 1, 0), mem, room)?;
+        let line = whole(picture(mode, width, 1, 0), mem);
+        drawn(rt, title, Case { room, ..line })?;
     }
     Ok(())
 }
 
 // 15 and 1, each where it begins to hold, and the order of all three.
 fn refusals<R: Print>(rt: &R, mem: &[u8]) -> io::Result<()> {
-    let sr = picture(2, 1, 1, 0);
-    let field = changed(sr, |s| {
-        s.map.height = 4;
-        s.map.counter = 4;
+    let sr = whole(picture(2, 1, 1, 0), mem);
+    let field = changed(sr, |c| {
+        c.settings.map.height = 4;
+        c.settings.map.counter = 4;
+        c.room = 319;
     });
-    drawn(rt, "Field counter 4 of 4", 0, field, mem, 319)?;
-    for (title, settings, room) in [
-        ("Origin 524289", changed(sr, |s| s.origin = 524289), 320),
-        ("Mode 5", changed(sr, |s| s.overlay.mode = 5), 680),
+    let origin = changed(sr, |c| {
+        c.settings.origin = 524289;
+        c.room = 320;
+    });
+    let both = Case {
+        control: 16,
+        room: 319,
+        ..sr
+    };
+    for (title, case) in [
+        ("Field counter 4 of 4", field),
+        ("Origin 524289", origin),
+        ("Mode 5", changed(sr, |c| c.settings.overlay.mode = 5)),
         (
             "hscroll 8 in SR",
-            changed(sr, |s| s.overlay.hscroll = 8),
-            680,
+            changed(sr, |c| c.settings.overlay.hscroll = 8),
         ),
+        ("VIDEO_CONTROL 16", both),
+        ("VIDEO_CONTROL 15", Case { control: 15, ..sr }),
     ] {
-        drawn(rt, title, 0, settings, mem, room)?;
+        drawn(rt, title, case)?;
     }
-    drawn(rt, "VIDEO_CONTROL 16", 16, sr, mem, 319)?;
-    drawn(rt, "VIDEO_CONTROL 15", 15, sr, mem, 680)?;
-    if let Some(short) = mem.get(..16383) {
-        drawn(rt, "Memory of 16383, VIDEO_CONTROL 16", 16, sr, short, 319)?;
+    if let Some(mem) = mem.get(..16383) {
+        drawn(
+            rt,
+            "Memory of 16383, VIDEO_CONTROL 16",
+            Case { mem, ..both },
+        )?;
     }
     Ok(())
 }
@@ -214,7 +232,6 @@ fn main(rt: HostRuntime) -> io::Result<()> {
     four(
         &rt,
         "Text, attributes 80 and 00",
-        picture(1, 0, 2, 200),
-        &mem,
+        whole(picture(1, 0, 2, 200), &mem),
     )
 }
