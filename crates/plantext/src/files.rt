@@ -1,7 +1,6 @@
 // The plans and files that a program is given: on standard input, and in the files that its arguments name. What cannot be read is told on
 // standard error; where it cannot be told either, there is nobody to tell.
 ghost use Rattle.std.specs.Prelude.{◌≡◌, ◌≤◌, length, IfOk, IfSome};
-ghost use Rattle.plantext.specs.Counts.{IsPrefixLen};
 
 use std::env::{Env, FillError};
 use std::io::{ErrorKind, Read};
@@ -15,9 +14,9 @@ pub struct Host<'a, R, E> {
     pub errors: &'a E,
 }
 
-// Reads until the buffer is full, the input ends or a read fails; how many bytes.
-fn read<I: Read>(input: &mut I, bytes: &mut [u8]) -> io::Result<usize>
-    ensures { IfOk result (λ n. IsPrefixLen n bytes.new) }
+// Reads until the buffer is full, the input ends or a read fails; what was read.
+fn read<'w, I: Read>(input: &mut I, bytes: &'w mut [u8]) -> io::Result<&'w [u8]>
+    ensures { IfOk result (λ r. length r.now ≤ length bytes.old) }
 {
     let mut n = 0;
     while n < bytes.len() {
@@ -26,12 +25,12 @@ fn read<I: Read>(input: &mut I, bytes: &mut [u8]) -> io::Result<usize>
             more => n += more,
         }
     }
-    Ok(n)
+    Ok(&bytes[..n])
 }
 
 // A path of the library's is text.
-fn read_path<R: Files>(rt: &R, name: &[u8], bytes: &mut [u8]) -> io::Result<usize>
-    ensures { IfOk result (λ n. IsPrefixLen n bytes.new) }
+fn read_path<'w, R: Files>(rt: &R, name: &[u8], bytes: &'w mut [u8]) -> io::Result<&'w [u8]>
+    ensures { IfOk result (λ r. length r.now ≤ length bytes.old) }
 {
     match str::from_utf8(name) {
         Ok(path) => read(&mut fs::open(rt, path)?, bytes),
@@ -98,11 +97,11 @@ impl<R: Env + Print, E> Host<'_, R, E> {
 
 impl<R, E: Print> Host<'_, R, E> {
     // What is read; what cannot be is told.
-    fn told(&self, what: &[u8], read: io::Result<usize>) -> Option<usize>
-        ensures { IfSome result (λ n. read ≡ Ok n) }
+    fn told<'w>(&self, what: &[u8], read: io::Result<&'w [u8]>) -> Option<&'w [u8]>
+        ensures { IfSome result (λ r. read.entry ≡ Ok r) }
     {
         match read {
-            Ok(n) => Some(n),
+            Ok(bytes) => Some(bytes),
             Err(why) => {
                 let _ = tell(self.errors, what, why);
                 None
@@ -112,9 +111,9 @@ impl<R, E: Print> Host<'_, R, E> {
 }
 
 impl<R: Env + Files, E: Print> Host<'_, R, E> {
-    // The bytes of the file that an argument names, as many as fit; how many, or none where it cannot be read.
-    pub fn read_file(&self, i: usize, bytes: &mut [u8]) -> Option<usize>
-        ensures { IfSome result (λ n. IsPrefixLen n bytes.new) }
+    // The bytes of the file that an argument names, as many as fit; none where it cannot be read.
+    pub fn read_file<'w>(&self, i: usize, bytes: &'w mut [u8]) -> Option<&'w [u8]>
+        ensures { IfSome result (λ r. length r.now ≤ length bytes.old) }
     {
         let mut word = [0u8; WORD];
         match self.rt.arg(i, &mut word) {
@@ -126,8 +125,8 @@ impl<R: Env + Files, E: Print> Host<'_, R, E> {
 
 impl<R: Env + Files + Input, E: Print> Host<'_, R, E> {
     // The plan in the file that an argument names. For argument 0, which is the program, it is the plan on standard input.
-    pub fn read_plan(&self, i: usize, plan: &mut [u8]) -> Option<usize>
-        ensures { IfSome result (λ n. IsPrefixLen n plan.new) }
+    pub fn read_plan<'w>(&self, i: usize, plan: &'w mut [u8]) -> Option<&'w [u8]>
+        ensures { IfSome result (λ r. length r.now ≤ length plan.old) }
     {
         if i == 0 {
             return self.told(b"standard input", read(&mut self.rt.reader(), plan));
@@ -141,7 +140,7 @@ impl<R: Env + Files + Input, E: Print> Host<'_, R, E> {
     {
         let mut plan = [0u8; 8192];
         match self.read_plan(i, &mut plan) {
-            Some(n) => show(&plan[..n]),
+            Some(plan) => show(plan),
             None => Ok(()),
         }
     }
