@@ -2,8 +2,7 @@
 // frame are drawn and written as they come.
 #![tactic(auto)]
 
-ghost use Rattle.std.specs.Prelude.{IfSome};
-ghost use Rattle.plantext.specs.Counts.{IsPrefixLen};
+ghost use Rattle.std.specs.Prelude.{◌≤◌, length, IfSome};
 
 mod picture;
 
@@ -85,7 +84,7 @@ fn with_image<R: Env + Files + Print, E: Print>(
     memory: usize,
 ) -> io::Result<()> {
     match host.read_file(memory, image) {
-        Some(n) if n <= Vram::LONGEST => in_memory(host, image, screen),
+        Some(read) if read.len() <= Vram::LONGEST => in_memory(host, image, screen),
         Some(_) => println!(host.errors; "MEMORY has more than 524288 bytes"),
         None => Ok(()),
     }
@@ -101,17 +100,18 @@ fn with_list<R: Env + Files + Print, E: Print>(
     with_image(host, &mut image, screen, memory)
 }
 
-// The list of the plan in the file that an argument names, and how many bytes it has.
-fn list_of<R: Env + Files, E: Print>(
+// The list of the plan in the file that an argument names, compiled into what is lent.
+fn list_of<'w, R: Env + Files, E: Print>(
     host: &Host<R, E>,
     plan: usize,
-    list: &mut [u8],
-) -> Option<usize>
-    ensures { IfSome result (λ n. IsPrefixLen n list.new) }
+    list: &'w mut [u8],
+) -> Option<&'w [u8]>
+    ensures { IfSome result (λ l. length l.now ≤ length list.old) }
 {
     let mut bytes = [0u8; 8192];
-    let n = host.read_file(plan, &mut bytes)?;
-    plantext::compiled(&bytes[..n], list, host.errors)
+    let plan = host.read_file(plan, &mut bytes)?;
+    let n = plantext::compiled(plan, list, host.errors)?;
+    Some(&list[..n])
 }
 
 // The plan and the memory in the files that two arguments name.
@@ -122,14 +122,10 @@ fn shown<R: Env + Files + Print, E: Print>(
     video: u8,
 ) -> io::Result<()> {
     let mut list = [0u8; Vram::INSTALLED];
-    let Some(n) = list_of(host, plan, &mut list) else {
-        return Ok(());
-    };
-    let screen = Screen {
-        list: &list[..n],
-        video,
-    };
-    with_list(host, screen, memory)
+    match list_of(host, plan, &mut list) {
+        Some(list) => with_list(host, Screen { list, video }, memory),
+        None => Ok(()),
+    }
 }
 
 fn main(rt: HostRuntime) -> io::Result<()> {
