@@ -6,6 +6,7 @@ use native.Mathlib.Omega.{arith}
 use Rattle.vram.specs.Memory.{Bytes, byte_at}
 use Rattle.step.specs.declared.Side.{Side}
 use Rattle.block.specs.Block.{side_at, block_at}
+use Rattle.block.specs.Byte.{new_note}
 use Rattle.block.specs.declared.Block.{Block}
 use Rattle.block.specs.declared.Note.{Note}
 
@@ -39,6 +40,9 @@ pub record BlockBytes (b : Block) : Type 0 where
 -- and so is a note's
 pub record NoteBytes (n : Note) : Type 0 where
   pub code : n.code < 256
+
+pub new_note_bytes : NoteBytes new_note
+new_note_bytes = record { code = omega arith }
 
 -- of a memory of bytes
 pub block_bytes : (mem : List ℕ) (list : ℕ) → Bytes mem → BlockBytes (block_at mem list)

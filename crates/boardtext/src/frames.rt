@@ -2,23 +2,27 @@
 //   MODE ADDRESS step N scroll H V font F counter N; map on|off ADDRESS step N scroll H V field WxH counter N;
 //   width N palettes OVERLAY PLAYFIELD priority P; record ADDRESS|no record
 // with addresses, font and priority in hex. The record is the one last read for the line.
+ghost use Rattle.std.specs.Prelude.{◌≡◌};
+
 use super::Shown;
 use frame::Frame;
+use print::{Address, RefusalLine};
+use refusal::Refusal;
 use settings::{Look, Map, Overlay, Settings};
-use std::fmt;
+use std::{fmt, io};
 
 #[derive(Clone, Copy)]
 struct Mode(u8);
 
-// An unsound mode is printed as its number.
+// What stands before the address. An unsound mode is printed as its number, with nothing behind it.
 impl fmt::Display for Mode {
     fn fmt<W: fmt::Write>(&self, f: &mut fmt::Formatter<W>) -> fmt::Result {
         match self.0 {
-            0 => f.write_str("off"),
-            1 => f.write_str("text"),
-            2 => f.write_str("SR"),
-            3 => f.write_str("HR"),
-            4 => f.write_str("LR"),
+            0 => f.write_str("off "),
+            1 => f.write_str("text "),
+            2 => f.write_str("SR "),
+            3 => f.write_str("HR "),
+            4 => f.write_str("LR "),
             m => write!(f, "mode {m}"),
         }
     }
@@ -36,9 +40,10 @@ impl fmt::Display for Shown<Overlay> {
             counter,
         } = self.0;
         let mode = Mode(mode);
+        let address = Address(address);
         write!(
             f,
-            "{mode} {address:05X} step {step} scroll {hscroll} {vscroll} font {font:02X} counter {counter}"
+            "{mode}{address} step {step} scroll {hscroll} {vscroll} font {font:02X} counter {counter}"
         )
     }
 }
@@ -56,9 +61,10 @@ impl fmt::Display for Shown<Map> {
             counter,
         } = self.0;
         let on = if on { "on" } else { "off" };
+        let address = Address(address);
         write!(
             f,
-            "map {on} {address:05X} step {step} scroll {hscroll} {vscroll} field {width}x{height} counter {counter}"
+            "map {on} {address} step {step} scroll {hscroll} {vscroll} field {width}x{height} counter {counter}"
         )
     }
 }
@@ -89,7 +95,7 @@ impl fmt::Display for Shown<Settings> {
             Shown(s.look)
         )?;
         if s.origin < Settings::NO_RECORD {
-            write!(f, "; record {:05X}", s.origin)
+            write!(f, "; record {}", Address(s.origin))
         } else {
             f.write_str("; no record")
         }
@@ -106,7 +112,9 @@ pub struct Lines {
 
 impl Lines {
     // A single line.
-    pub fn one(line: u16, settings: Settings) -> Self {
+    pub fn one(line: u16, settings: Settings) -> Self
+        ensures { (result.from ≡ line) × (result.to ≡ line) × (result.settings ≡ settings) }
+    {
         Lines {
             from: line,
             to: line,
@@ -132,11 +140,33 @@ impl fmt::Display for Shown<Frame> {
         let Frame { reader, line, on } = self.0;
         write!(
             f,
-            "frame: line {line} repeat {} list {:05X} {}{}",
+            "frame: line {line} repeat {} list {} {}{}",
             reader.repeat,
-            reader.position,
+            Address(reader.position),
             if on { "on" } else { "not on" },
             if reader.ended { " ended" } else { "" }
         )
     }
+}
+
+// All that a frame holds.
+#[derive(Clone, Copy)]
+pub struct Held(pub Frame);
+
+impl fmt::Display for Held {
+    fn fmt<W: fmt::Write>(&self, f: &mut fmt::Formatter<W>) -> fmt::Result {
+        let frame = self.0;
+        write!(
+            f,
+            "{}\nholds: {}",
+            Shown(frame),
+            Shown(frame.reader.settings)
+        )
+    }
+}
+
+// A line that is refused.
+pub fn refused<R: Print>(rt: &R, line: u16, why: Refusal) -> io::Result<()> {
+    print!(rt; "line {line}: ")?;
+    rt.println(RefusalLine::from(why))
 }

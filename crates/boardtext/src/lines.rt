@@ -1,16 +1,20 @@
 // The lines of a frame as text, for the programs that show them: those that are all alike as one, or as many as show each band.
+ghost use Rattle.std.specs.Prelude.{◌≡◌};
+ghost use Rattle.std.specs.Fn.{FnOnceReturns};
+ghost use Rattle.refusal.specs.Sheet.{done};
+ghost use Rattle.frame.specs.Frame.{start_answer};
+
 use super::Shown;
 use super::boards::pointed;
-use super::frames::Lines;
+use super::frames::{Held, Lines, refused};
 use board::Board;
 use frame::Frame;
 use print::RefusalLine;
 use record::Reader;
-use refusal::Refusal;
 use settings::Settings;
 use std::io;
 
-// A memory, and where a plan's list stands in it; none where lines are told without their items.
+// A memory, and where a plan's list stands in it; none where lines are told without their items, or where no address is.
 #[derive(Clone, Copy)]
 struct Memory<'a> {
     bytes: &'a [u8],
@@ -23,10 +27,12 @@ impl<'a> Memory<'a> {
     }
 
     fn listed(bytes: &'a [u8], at: u32) -> Self {
-        Memory {
-            bytes,
-            list: Some(at),
-        }
+        let list = if at < Settings::NO_RECORD {
+            Some(at)
+        } else {
+            None
+        };
+        Memory { bytes, list }
     }
 
     // The number of the item whose record is at an address: each item of a plan has one record, in the same order. It has 240 items
@@ -50,12 +56,6 @@ fn tell<R: Print>(rt: &R, mem: Memory, lines: Lines) -> io::Result<()> {
         print!(rt; "; item {item}")?;
     }
     println!(rt)
-}
-
-// A line that is refused.
-fn refused<R: Print>(rt: &R, line: u16, why: Refusal) -> io::Result<()> {
-    print!(rt; "line {line}: ")?;
-    rt.println(RefusalLine::from(why))
 }
 
 // The settings without what moves from line to line.
@@ -140,7 +140,7 @@ pub fn ask<R: Print>(rt: &R, frame: Frame, mem: &[u8]) -> io::Result<()> {
         }
         Ok(settings) => {
             tell(rt, Memory::bare(mem), Lines::one(frame.line, settings))?;
-            println!(rt; "{}\nholds: {}", Shown(after), Shown(after.reader.settings))
+            println!(rt; "{}", Held(after))
         }
     }
 }
@@ -152,6 +152,7 @@ pub fn begun<R: Print, F: FnOnce(Frame) -> io::Result<()>>(
     shown: F,
 ) -> io::Result<()>
     requires { F.IsAlwaysCallable shown }
+    ensures { (frame : _) → start_answer board ≡ done frame → FnOnceReturns F.FnOnce shown (frame, tt) result }
 {
     match Frame::start(board) {
         Ok(frame) => shown(frame),

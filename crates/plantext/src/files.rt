@@ -1,6 +1,7 @@
 // The plans and files that a program is given: on standard input, and in the files that its arguments name. What cannot be read is told on
 // standard error; where it cannot be told either, there is nobody to tell.
-ghost use Rattle.std.specs.Prelude.{◌≡◌, ◌≤◌, length, IfOk, IfSome};
+ghost use Rattle.std.specs.Prelude.{◌≡◌, ◌≤◌, ◌⊎◌, List, ℕ, length, IfOk, IfSome};
+ghost use Rattle.std.specs.Fn.{FnOnceReturnsAt};
 
 use std::env::{Env, FillError};
 use std::io::{ErrorKind, Read};
@@ -137,6 +138,7 @@ impl<R: Env + Files + Input, E: Print> Host<'_, R, E> {
     // The first 8,192 bytes of that plan, lent; they decide. Nothing is done where it cannot be read.
     pub fn with_plan<F: FnOnce(&[u8]) -> io::Result<()>>(&self, i: usize, show: F) -> io::Result<()>
         requires { F.IsAlwaysCallable show }
+        ensures { (result ≡ Ok tt) ⊎ ((plan : List ℕ) × (length plan ≤ 8192) × FnOnceReturnsAt F.FnOnce show plan result) }
     {
         let mut plan = [0u8; 8192];
         match self.read_plan(i, &mut plan) {
@@ -163,10 +165,15 @@ impl<R: Env + Files + Input + Print, E: Print> Host<'_, R, E> {
         self.with_plan(i, |plan| super::write_list(self.rt, self.errors, plan))
     }
 
-    // The lists of all files that arguments name, as text.
+    // The lists of all files that arguments name, as text. Their names stand before them where something is to stand behind those.
     pub fn list_files(&self, behind: &[u8]) -> io::Result<()> {
+        let behind = if behind.is_empty() {
+            None
+        } else {
+            Some(behind)
+        };
         for i in 1..self.count() {
-            self.list_file(i, Some(behind))?;
+            self.list_file(i, behind)?;
         }
         Ok(())
     }

@@ -1,6 +1,8 @@
 // What the programs print alike.
 #![tactic(auto)]
 
+ghost use Rattle.std.specs.Prelude.{◌≡◌};
+
 use refusal::Refusal;
 use std::fmt;
 
@@ -17,6 +19,16 @@ impl fmt::Display for HexBytes<'_> {
     }
 }
 
+// The 20 low bits of an address, as five digits.
+#[derive(Clone, Copy)]
+pub struct Address(pub u32);
+
+impl fmt::Display for Address {
+    fn fmt<W: fmt::Write>(&self, f: &mut fmt::Formatter<W>) -> fmt::Result {
+        write!(f, "{:05X}", self.0 % 0x100000)
+    }
+}
+
 // A refusal as the desk prints it, with the item of a plan that it is of. Its fields are those of `plan::ItemRefusal`, which programs without
 // plans do not know.
 #[derive(Clone, Copy)]
@@ -27,6 +39,8 @@ pub struct RefusalLine {
 
 // A refusal that has no item of its own has item 0.
 impl From<Refusal> for RefusalLine {
+    ghost from_gives = { λ why r. (r.why ≡ why) × (r.item ≡ 0) };
+
     fn from(why: Refusal) -> RefusalLine {
         RefusalLine { why, item: 0 }
     }

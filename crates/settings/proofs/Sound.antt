@@ -1,12 +1,13 @@
 -- Sound settings: the row of tests taken apart into facts and put together again; beginning, advancing and going dark keep it. Assumes nothing.
 use Rattle.std.proofs.Common.{rules}
 use mathlib.Core.Path.{◌≡◌, refl}
-use mathlib.Core.Bool.{true}
+use mathlib.Core.Bool.{Bool, true}
 use mathlib.Core.List.{[], ◌∷◌}
-use Prim.Native.Nat.{◌≤◌, ◌<◌}
+use Prim.Native.Nat.{ℕ, ◌≤◌, ◌<◌}
 use lib.Dec.{leb}
 use Rattle.laws.proofs.Choice.{each_test}
 use Rattle.settings.specs.Settings.{no_record, beginning, sound_overlay, sound_map, sound_look, sound_settings, advanced_overlay, advanced_map, advanced, off}
+use Rattle.settings.specs.Parts.{overlay_at, in_mode, stepping, scrolled, in_font, map_at, switched, map_stepping}
 use Rattle.settings.specs.declared.Settings.{Settings}
 use Rattle.settings.specs.declared.Overlay.{Overlay}
 use Rattle.settings.specs.declared.Map.{Map}
@@ -69,6 +70,33 @@ look_sound l f = search rules
 
 pub settings_sound : (s : Settings) → SettingsFit s → sound_settings s ≡ true
 settings_sound s f = search (rules, overlay_sound, map_sound, look_sound)
+
+-- an overlay and a map with other parts that are within their ranges
+module _ (o : Overlay) (f : OverlayFits o) where
+  pub overlay_at_fits : (a c : ℕ) → a < 524288 → c < 8 → OverlayFits (overlay_at a c o)
+  overlay_at_fits a c l m = search rules
+
+  pub in_mode_fits : (m : ℕ) → m ≤ 4 → OverlayFits (in_mode m o)
+  in_mode_fits m h = search rules
+
+  pub stepping_fits : (a s : ℕ) → a < 524288 → s < 4096 → OverlayFits (stepping a s o)
+  stepping_fits a s l m = search rules
+
+  pub scrolled_fits : (h v : ℕ) → h < 8 → v < 8 → OverlayFits (scrolled h v o)
+  scrolled_fits h v l m = search rules
+
+  pub in_font_fits : (n : ℕ) → OverlayFits (in_font n o)
+  in_font_fits n = search rules
+
+module _ (p : Map) (f : MapFits p) where
+  pub map_at_fits : (a c : ℕ) → a < 524288 → c < p.height → MapFits (map_at a c p)
+  map_at_fits a c l m = search rules
+
+  pub switched_fits : (on : Bool) → MapFits (switched on p)
+  switched_fits on = search rules
+
+  pub map_stepping_fits : (a s : ℕ) → a < 524288 → s < 4096 → MapFits (map_stepping a s p)
+  map_stepping_fits a s l m = search rules
 
 overlay_advances : (o : Overlay) → OverlayFits o → OverlayFits (advanced_overlay o)
 unfolding advanced_overlay

@@ -1,7 +1,7 @@
 -- What advancing makes of an address and a counter some lines below a band's first line: a counter that turns at h steps its address
 -- every h lines. Assumes nothing.
 use mathlib.Core.Path.{◌≡◌, refl, ap, ◌∙◌}
-use mathlib.Core.Bool.{false}
+use mathlib.Core.Bool.{true, false}
 use Prim.Native.Nat.{ℕ, ◌+◌, ◌*◌, ◌/◌, ◌%◌, ◌≤◌, ◌<◌}
 use native.Mathlib.Nat.{div-add-mod', mod-lt, mod-add-mod, mod-eq_of_lt, div-eq_of_lt, add-mul}
 use native.Mathlib.Omega.{arith}
@@ -38,10 +38,14 @@ module _ (m n h : ℕ) (next : n ≡ m + 1) where
   turn_steps : 0 < h → h ≤ m % h + 1 → n / h ≡ m / h + 1
   turn_steps pos l = ap (λ (x : ℕ). x / h) (turned pos l) ∙ digits_div (m / h + 1) pos
 
--- what stands k lines below where the overlay is off, in a pixel mode, and where the map is off
+-- what stands k lines below: where the overlay is off, in text, in a pixel mode; where the map is off, and where it is on
 pub off_below : (o : Overlay) (k : ℕ) → o.mode ≡ 0 → overlay_below o k ≡ overlay_at ((o.address + 0 * o.step) % 524288) o.counter o
 unfolding overlay_below
 off_below o k m = simp m
+
+pub text_below : (o : Overlay) (k : ℕ) → o.mode ≡ 1 → overlay_below o k ≡ overlay_at ((o.address + (k + o.counter) / 8 * o.step) % 524288) ((k + o.counter) % 8) o
+unfolding overlay_below
+text_below o k m = simp m
 
 pub pixels_below : (o : Overlay) (k : ℕ) → (o.mode ≡ 0 → ⊥) → (o.mode ≡ 1 → ⊥) → overlay_below o k ≡ overlay_at ((o.address + k * o.step) % 524288) o.counter o
 unfolding overlay_below
@@ -50,6 +54,10 @@ pixels_below o k m n = simp (ne_eqb _ _ m, ne_eqb _ _ n)
 pub off_map_below : (p : Map) (k : ℕ) → p.on ≡ false → map_below p k ≡ map_at ((p.address + 0 * p.step) % 524288) p.counter p
 unfolding map_below
 off_map_below p k e = simp e
+
+pub on_map_below : (p : Map) (k : ℕ) → p.on ≡ true → map_below p k ≡ map_at ((p.address + (k + p.counter) / p.height * p.step) % 524288) ((k + p.counter) % p.height) p
+unfolding map_below
+on_map_below p k e = simp e
 
 pub overlay_below_lem : (o : Overlay) (k : ℕ) → advanced_overlay (overlay_below o k) ≡ overlay_below o (k + 1)
 unfolding advanced_overlay overlay_below

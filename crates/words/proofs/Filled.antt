@@ -19,7 +19,7 @@ zeros_behind (w ∷ words) zero h k = absurd (not-suc-le-zero h)
 zeros_behind (w ∷ words) (suc n) h zero = refl
 zeros_behind (w ∷ words) (suc n) h (suc k) = zeros_behind words n (le_of_suc-le-suc h) k
 
-pub filled : (words : List ℕ) (n : ℕ) (whole : List ℕ) → length words ≤ n → whole ≡ laid words (replicate n 0) → (n ≤ length whole) × SameWords whole words
+pub filled : (words : List ℕ) (n : ℕ) (whole : List ℕ) → length words ≤ n → whole ≡ laid words (replicate n 0) → (length whole ≡ n) × SameWords whole words
 filled words n whole h e =
     let is : whole ≡ words ++ drop (length words) (replicate n 0) = e ∙ laid_room words (replicate n 0) (omega (arith, length-replicate {A = ℕ} n 0)) in
     (simp (is, length-append, length-drop, length-replicate) (omega arith), (λ k. ap (λ (l : List ℕ). word_at l k) is ∙ zeros_behind words n h k))

@@ -1,7 +1,7 @@
 // A lent buffer of words: a word as a field, whether the words fit, and words laid over it.
 #![tactic(auto)]
 
-ghost use Rattle.std.specs.Prelude.{◌≡◌, ◌<◌, ◌≤◌, ◌*◌, ◌%◌, ◌^◌, min, length};
+ghost use Rattle.std.specs.Prelude.{◌≡◌, ◌<◌, ◌≤◌, ◌*◌, ◌%◌, ◌^◌, min, max, length};
 ghost use Rattle.std.specs.Fn.{FnReturnsAt};
 ghost use Rattle.words.specs.Words.{SameWords, within, laid};
 
@@ -61,7 +61,7 @@ pub fn lay(words: &mut [u32], new: &[u32])
 pub fn read_whole<T, F: Fn(&[u32]) -> T, const N: usize>(words: &[u32], read: F) -> T
     requires size { N * 4 < 2 ^ 63 }
     requires reads { (whole : _) → N ≤ length whole.now → F.pre read whole }
-    ensures { (whole : _) × (N ≤ length whole) × SameWords whole words.now × FnReturnsAt F.Fn read whole result }
+    ensures { (whole : _) × (length whole ≡ max N (length words.now)) × SameWords whole words.now × FnReturnsAt F.Fn read whole result }
 {
     if words.len() < N {
         let mut whole = [0; N];
